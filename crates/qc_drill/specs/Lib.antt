@@ -1,0 +1,6 @@
+pub mod Drill
+pub mod Headline
+pub mod Holds
+pub mod Progress
+pub mod Stops
+pub mod Words

@@ -1,0 +1,18 @@
+//! Lines in, lines out: the commands of the program over any site, source and sink.
+//!
+//! `run` carries out a command and answers its status. For the word `drill` it opens the site's hub, reads order lines
+//! from the source to its end, and writes the reply line of each. `answer_line` answers one line.
+//!
+//! What the lines of a byte string are, which order a line asks for, and what the machine replies are the definitions
+//! of docs/RULES.md and docs/FORMATS.md; `specs/Drill.antt` puts them together.
+#![tactic(auto)]
+
+mod answer;
+mod command;
+mod drill;
+mod piece;
+mod stop;
+mod turn;
+
+pub use answer::answer_line;
+pub use command::run;

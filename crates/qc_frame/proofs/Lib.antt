@@ -1,0 +1,12 @@
+mod Crash
+pub mod Groups
+mod Stands
+mod Making
+pub mod Fronts
+mod Same
+pub mod Payload
+mod Found
+mod Closing
+mod Next
+mod ReadOn
+pub mod Staged

@@ -1,0 +1,87 @@
+//! Logs and journals over a site in memory: what is read of them, and what each image has where the site stops.
+//!
+//! The functions here are what the tests do: a log or a journal read to its end, and a group or a fact more.
+#![tactic(auto)]
+
+ghost use Rattle.std.specs.Prelude.{◌≡◌, ◌≤◌, ◌+◌, [], true, length, IfOk, OnOk, max};
+ghost use Rattle.qc_base.specs.Spelling.{spelled_fact, is_fact};
+ghost use Rattle.qc_frame.specs.Log.{Stands};
+ghost use Rattle.qc_journal.specs.Journal.{JournalStands};
+
+use qc_base::Fact;
+use qc_frame::{Group, Log, LogError, read_to_end};
+use qc_journal::{Journal, size_of_fact};
+use qc_site::{Site, SiteFile};
+use std::alloc::Global;
+
+const HEADER: [u8; 16] = *b"QC-JOURNAL-0001\n";
+
+/// Opens the log in the journal's file and reads it to its end.
+pub fn open_at_end<S: Site>(alloc: Global, site: &mut S) -> Result<(Log, Vec<Group>), LogError>
+    ensures stands { IfOk result (λ r. Stands S.told (S.shown site.new) (S.may_leave site.new) r.0) }
+    ensures ended { IfOk result (λ r. (r.0.ended ≡ true) × (r.0.payload ≡ [])) }
+{
+    let mut log = Log::open(alloc, site, SiteFile::Journal, &HEADER)?;
+    let groups = read_to_end(alloc, &mut log, site)?;
+    Ok((log, groups))
+}
+
+/// One entry as a group of its own.
+pub fn add<S: Site>(
+    alloc: Global,
+    log: &mut Log,
+    site: &mut S,
+    bytes: &[u8],
+) -> Result<(), LogError>
+    requires stands { Stands S.told (S.shown site.old) (S.may_leave site.old) log.old }
+    requires ended { log.old.ended ≡ true }
+    requires waits { log.old.payload ≡ [] }
+    requires some { 1 ≤ length bytes.now }
+    requires fits { length bytes.now ≤ 1000 }
+    ensures stands { OnOk result (Stands S.told (S.shown site.new) (S.may_leave site.new) log.new) }
+    ensures ended { OnOk result ((log.new.ended ≡ true) × (log.new.payload ≡ [])) }
+{
+    log.reserve(alloc, bytes.len() + 4)?;
+    log.stage(bytes);
+    log.force(site)?;
+    Ok(())
+}
+
+/// Opens the journal and reads it to its end: the facts with the offsets of their entries.
+pub fn journal_at_end<S: Site>(
+    alloc: Global,
+    site: &mut S,
+) -> Result<(Journal, Vec<(u64, Fact)>), LogError>
+    ensures stands { IfOk result (λ r. JournalStands S.told (S.shown site.new) (S.may_leave site.new) r.0) }
+    ensures ended { IfOk result (λ r. r.0.ended ≡ true) }
+{
+    let mut journal = Journal::open(alloc, site)?;
+    let mut facts = Vec::new(alloc);
+    while let Some(next) = journal.next_fact(alloc, site)? {
+        let Ok(()) = facts.push(next) else {
+            return Err(LogError::NoMemory);
+        };
+    }
+    Ok((journal, facts))
+}
+
+/// One fact more.
+pub fn append<S: Site>(
+    alloc: Global,
+    journal: &mut Journal,
+    site: &mut S,
+    fact: &Fact,
+) -> Result<(), LogError>
+    requires stands { JournalStands S.told (S.shown site.old) (S.may_leave site.old) journal.old }
+    requires ended { journal.old.ended ≡ true }
+    requires limits { is_fact fact.now ≡ true }
+    ensures stands { OnOk result (JournalStands S.told (S.shown site.new) (S.may_leave site.new) journal.new) }
+    ensures ended { OnOk result (journal.new.ended ≡ true) }
+{
+    journal.reserve(alloc, size_of_fact(fact) + 4)?;
+    journal.append_forced(site, fact)?;
+    Ok(())
+}
+
+#[cfg(test)]
+mod tests;

@@ -1,0 +1,19 @@
+-- The history that a journal's file spells: each fact is one group with one entry.
+use Rattle.std.specs.Prelude.{◌≡◌, ℕ, List, [], ◌∷◌, ◌++◌, map, codes, true}
+use Rattle.std.specs.List.{list_all}
+use Rattle.qc_base.specs.Spelling.{spelled_fact, is_fact}
+use Rattle.qc_base.specs.declared.fact.Fact.{Fact}
+use Rattle.qc_frame.specs.Frame.{groups, entry}
+
+-- the first 16 bytes of the journal's file
+abbrev pub journal_header : List ℕ
+journal_header = codes "QC-JOURNAL-0001" ++ 10 ∷ []
+
+-- the payload of a fact
+abbrev pub fact_payload : Fact → List ℕ
+fact_payload fact = entry (spelled_fact fact)
+
+-- the open groups of the file spell this history
+pub record SpellsHistory (file : List ℕ) (facts : List Fact) : Type 0 where
+  pub groups : groups file ≡ map fact_payload facts
+  pub limits : list_all is_fact facts ≡ true

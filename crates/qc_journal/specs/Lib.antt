@@ -1,0 +1,3 @@
+pub mod History
+pub mod Journal
+pub mod Parts

@@ -1,0 +1,12 @@
+pub mod Bounds
+pub mod Calls
+pub mod Chosen
+pub mod ChosenFile
+pub mod Doors
+pub mod Keepers
+pub mod Laws
+pub mod Numbers
+pub mod Plan
+pub mod Rows
+pub mod Shown
+pub mod Streams
