@@ -4,6 +4,12 @@
 //! journal, and the two streams (docs/RULES.md, "The program"). Nothing is written to standard error.
 #![tactic(auto)]
 
+ghost use Rattle.std.specs.Prelude.{◌≡◌, ◌⊎◌, ◌++◌, ◌∷◌, ℕ, List, [], None, IfOk, OnErr, Err};
+ghost use Rattle.std.specs.Process.{exit_status};
+ghost use Rattle.qc_base.specs.Statuses.{status_code};
+ghost use Rattle.qc_memsite.specs.Shown.{shown_by};
+ghost use Rattle.qc_journal.specs.History.{journal_header};
+
 mod streams;
 
 use crate::streams::{StdSink, StdSource};
@@ -17,15 +23,14 @@ use std::io::ErrorKind;
 use std::process::ExitCode;
 
 // The words of the command line behind the program's name. A word that is no text is no command.
-fn words_of<R: env::Env + AllocGlobal>(rt: &R) -> Result<Vec<String>, Status> {
+fn words_of<R: env::Env + AllocGlobal>(rt: &R) -> Result<Vec<String>, Status>
+    ensures refused { OnErr result ((result ≡ Err Status.BadWords) ⊎ (result ≡ Err Status.NoMemory)) }
+{
     match env::args(rt) {
-        Ok(args) => {
-            let mut words = Vec::new(rt.alloc());
-            for word in args.skip(1) {
-                words.push(word).map_err(|_| Status::NoMemory)?;
-            }
-            Ok(words)
-        }
+        Ok(args) => args
+            .skip(1)
+            .collect(rt.alloc())
+            .map_err(|_| Status::NoMemory),
         Err(error) => match error.kind() {
             ErrorKind::OutOfMemory => Err(Status::NoMemory),
             _ => Err(Status::BadWords),
@@ -34,13 +39,18 @@ fn words_of<R: env::Env + AllocGlobal>(rt: &R) -> Result<Vec<String>, Status> {
 }
 
 // An empty site with a journal without facts.
-fn new_site(alloc: Global) -> Result<MemSite, Status> {
+fn new_site(alloc: Global) -> Result<MemSite, Status>
+    ensures journal { IfOk result (λ site. (shown_by site.kept).journal ≡ journal_header ++ 0 ∷ []) }
+    ensures rows { IfOk result (λ site. (r k : List ℕ) → (shown_by site.kept).rows r k ≡ None) }
+    ensures refused { OnErr result ((result ≡ Err Status.SiteFault) ⊎ (result ≡ Err Status.NoMemory)) }
+{
     let mut site = MemSite::make(alloc).map_err(|_| Status::NoMemory)?;
     Journal::make(&mut site).map_err(|_| Status::SiteFault)?;
     Ok(site)
 }
 
-fn drill(rt: &HostRuntime) -> Result<Status, Status> {
+// The status, also where nothing could be made.
+fn carry_out(rt: &HostRuntime) -> Result<Status, Status> {
     let words = words_of(rt)?;
     let mut site = new_site(rt.alloc())?;
     let mut source = StdSource::over(rt.stdin());
@@ -48,10 +58,14 @@ fn drill(rt: &HostRuntime) -> Result<Status, Status> {
     Ok(run(rt.alloc(), &words, &mut site, &mut source, &mut sink))
 }
 
-fn main(rt: HostRuntime) -> ExitCode {
-    let status = match drill(&rt) {
-        Ok(status) => status,
-        Err(status) => status,
-    };
+fn exit_code(status: Status) -> ExitCode
+    ensures { exit_status result ≡ status_code status }
+{
     ExitCode::from(status.code())
+}
+
+fn main(rt: HostRuntime) -> ExitCode {
+    match carry_out(&rt) {
+        Ok(status) | Err(status) => exit_code(status),
+    }
 }
