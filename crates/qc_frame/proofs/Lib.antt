@@ -10,3 +10,5 @@ mod Closing
 mod Next
 mod ReadOn
 pub mod Staged
+pub mod Chained
+pub mod ReadBack

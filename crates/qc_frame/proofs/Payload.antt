@@ -62,7 +62,7 @@ entries_alone (e ∷ entries) (f ∷ others) few is =
     let rest = entries_alone entries others (omega (arith, few, long)) tail in
     λ i. head i ∷ rest i
 
-flat_map-entry : (entries : List (List ℕ)) (e : List ℕ) → flat_map entry (entries ++ e ∷ []) ≡ flat_map entry entries ++ entry e
+pub flat_map-entry : (entries : List (List ℕ)) (e : List ℕ) → flat_map entry (entries ++ e ∷ []) ≡ flat_map entry entries ++ entry e
 flat_map-entry [] e = append-nil (entry e)
 flat_map-entry (f ∷ entries) e = ap (λ (l : List ℕ). entry f ++ l) (flat_map-entry entries e) ∙ sym (append_assoc (entry f) (flat_map entry entries) (entry e))
 

@@ -100,3 +100,10 @@ pub record ReadTo (file : List ℕ) (from place : ℕ) (lists : List (List (List
   pub payloads : List (List ℕ)
   pub spelled : Spelled payloads lists
   pub led : groups_at file from ≡ payloads ++ groups_at file place
+
+-- behind these groups stands one whose payload is no list of entries
+pub record DamagedBehind (file : List ℕ) (from at : ℕ) : Type 0 where
+  pub place : ℕ
+  pub lists : List (List (List ℕ))
+  pub read : ReadTo file from place lists
+  pub damage : DamagedGroup file place at

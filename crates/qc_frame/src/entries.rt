@@ -21,6 +21,7 @@ pub struct Entry {
 }
 
 impl Entry {
+    /// The entry once more, its bytes in memory of their own.
     pub fn copy(&self, alloc: Global) -> Result<Entry, NoMemory>
         ensures { IfOk result (λ entry. entry ≡ self.now) }
     {
@@ -59,6 +60,7 @@ impl Entries {
         self.0.as_slice()
     }
 
+    /// The entries once more, in memory of their own.
     pub fn copy(&self, alloc: Global) -> Result<Entries, NoMemory>
         ensures { IfOk result (λ entries. entries ≡ self.now) }
     {

@@ -24,6 +24,7 @@ pub enum LogError {
 }
 
 impl LogError {
+    /// The same answer once more.
     pub fn copy(&self) -> LogError
         ensures { result ≡ self.now }
     {

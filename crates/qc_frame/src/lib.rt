@@ -17,7 +17,7 @@
 //!    closed end gate with a new one behind it, syncs, opens the gate by a write of one byte, and syncs. A crash at any
 //!    moment leaves the group whole or not at all.
 //!
-//! After an error the log is opened again.
+//! After an error the log is opened again. [`force_and_read`] is the law that what is read is what was forced.
 #![tactic(auto)]
 
 mod entries;
@@ -30,4 +30,4 @@ mod runs;
 pub use entries::{Entries, Entry};
 pub use error::LogError;
 pub use log::{Group, Log};
-pub use runs::read_to_end;
+pub use runs::{force_and_read, read_to_end};

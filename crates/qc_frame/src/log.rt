@@ -26,6 +26,7 @@ pub struct Group {
 }
 
 impl Group {
+    /// The group once more, its entries in memory of their own.
     pub fn copy(&self, alloc: Global) -> Result<Group, NoMemory>
         ensures { IfOk result (λ group. group ≡ self.now) }
     {
@@ -207,6 +208,13 @@ impl Log {
                 Ok(None)
             }
         }
+    }
+
+    // The file that it is a log of.
+    pub(crate) fn file(&self) -> SiteFile
+        ensures { result ≡ self.now.file }
+    {
+        self.file
     }
 
     /// The length of the file in bytes.

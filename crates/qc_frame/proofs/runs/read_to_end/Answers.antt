@@ -1,44 +1,77 @@
-use Rattle.std.proofs.Common.{◌≡◌, ◌∙◌, ◌∷◌, [], List, ℕ, map, sym, ap, subst, rules, None, true}
-use Rattle.std.specs.Option.{IfSome, IfNone}
+use Rattle.std.proofs.Common.{◌≡◌, ◌∙◌, ◌∷◌, [], List, ℕ, map, refl, ap, subst, arith, rules}
+use Rattle.std.specs.Option.{IfSome}
 use Rattle.std.proofs.lemmas.List.{map-append}
 use Rattle.qc_site.specs.Image.{bytes_of}
-use Rattle.qc_frame.specs.Log.{LogView, StandsOn, ReadTo, NextGroup}
+use Rattle.qc_site.specs.Disk.{LeavesOnly}
+use Rattle.qc_site.proofs.Moments.{started}
+use Rattle.qc_frame.specs.Gate.{After}
+use Rattle.qc_frame.specs.Log.{LogView, NextGroup, SameLog}
 use Rattle.qc_frame.specs.declared.log.Group.{Group}
 use Rattle.qc_frame.specs.declared.entries.Entry.{Entry}
 use Rattle.qc_frame.proofs.ReadOn.{read_on}
+use Rattle.qc_frame.proofs.Same.{same_log}
+use Rattle.qc_frame.proofs.Chained.{chained}
 use Rattle.qc_frame.proofs.runs.read_to_end.Goals as goal
+
+pub loop-read-init : goal.loop-read-init
+loop-read-init g c = record {
+  kept = refl;
+  faults = omega arith;
+  still = λ told. refl;
+  stands = c.requires.stands;
+  so_far = search rules;
+  moments = λ told.
+      let site = g.S.Site in
+      let file = c.args.log.now.file in
+      let before = site.may_leave c.args.site.now in
+      started site.moment site.left_since c.args.site.now (After file SameLog before) (λ i left. same_log file before i (g.met.S.Site.only_now c.args.site.now i told left));
+}
+
+pub returns-in_err-group-clause-any_moment : goal.returns-in_err-group-clause-any_moment
+returns-in_err-group-clause-any_moment g c = λ told.
+    let site = g.S.Site in
+    let mid = c.loop-read.site in
+    let last = subst (λ f. LeavesOnly site.moment site.left_since mid c.next_group.new.site (After f SameLog (site.may_leave mid))) (ap (λ (l : LogView). l.file) c.loop-read.invariant.kept) (c.next_group.ensures.any_moment told) in
+    chained site.moment site.left_since site.may_leave c.args.log.now.file c.args.site.now mid c.next_group.new.site (λ t i le here. g.met.S.Site.counts_now mid t i told le here) (c.loop-read.invariant.moments told) last
 
 pub loop-read-preserved : goal.loop-read-preserved
 loop-read-preserved g c =
+    let site = g.S.Site in
+    let mid = c.loop-read.site in
     let old = c.loop-read.log in
     let new = c.next_group.new.self in
-    let is : new ≡ record old { place = new.place } = subst (λ o. IfSome o (λ (group : Group). new ≡ record old { place = new.place })) c.in-Some.is c.in_ok-group.ensures.moved in
-    let kept = c.loop-read.invariant in (
-      ap (λ (x : LogView). x.payload) is ∙ kept.0,
-      ap (λ (x : LogView). x.file) is ∙ kept.1,
-      ap (λ (x : LogView). x.spare) is ∙ kept.2,
-      λ told.
-          let site = g.S.Site in
-          let so_far = kept.3 told in
-          let still : site.shown c.next_group.new.site ≡ site.shown c.loop-read.site = subst (λ o. IfSome o (λ (group : Group). site.shown c.next_group.new.site ≡ site.shown c.loop-read.site)) c.in-Some.is (c.in_ok-group.ensures.still told) in
-          let file = bytes_of old.file (site.shown c.loop-read.site) in
-          let next : NextGroup file old new c.in-Some.group.at c.in-Some.group.entries
-          = subst (λ o. IfSome o (λ (group : Group). NextGroup file old new group.at group.entries)) c.in-Some.is (c.in_ok-group.ensures.group told) in
+    let kept = c.loop-read.invariant.kept in
+    let file : old.file ≡ c.args.log.now.file = ap (λ (l : LogView). l.file) kept in
+    let moved : new ≡ record old { place = new.place } = subst (λ o. IfSome o (λ (group : Group). new ≡ record old { place = new.place })) c.in-Some.is c.in_ok-group.ensures.moved in
+    let still : site.told → site.shown c.next_group.new.site ≡ site.shown mid = λ told. subst (λ o. IfSome o (λ (group : Group). site.shown c.next_group.new.site ≡ site.shown mid)) c.in-Some.is (c.in_ok-group.ensures.still told) in
+    record {
+      kept = moved ∙ ap (λ (l : LogView). record l { place = new.place }) kept;
+      faults = omega (arith, c.loop-read.invariant.faults, c.next_group.ensures.cause.no_fewer);
+      still = λ told. still told ∙ c.loop-read.invariant.still told;
+      stands = c.in_ok-group.ensures.stands;
+      so_far = λ told.
+          let shown = site.shown mid in
+          let next : NextGroup (bytes_of old.file shown) old new c.in-Some.group.at c.in-Some.group.entries
+          = subst (λ o. IfSome o (λ (group : Group). NextGroup (bytes_of old.file shown) old new group.at group.entries)) c.in-Some.is (c.in_ok-group.ensures.group told) in
+          let whole : bytes_of old.file shown ≡ bytes_of c.args.log.now.file (site.shown c.args.site.now) = (λ i. bytes_of (file i) (c.loop-read.invariant.still told i)) in
+          let here = subst (λ (l : List ℕ). NextGroup l old new c.in-Some.group.at c.in-Some.group.entries) whole next in
           let pushed = ap (λ (l : List Group). map (λ (group : Group). map (λ (e : Entry). e.bytes) group.entries) l) c.in-Ok.ensures.items ∙ map-append (λ (group : Group). map (λ (e : Entry). e.bytes) group.entries) c.loop-read.read.items (c.in-Some.group ∷ []) in
-          let more = read_on file c.args.log.now.place c.in-Some.group.at old new _ _ _ so_far.2 next pushed in
-          let same : file ≡ bytes_of new.file (site.shown c.next_group.new.site) = (λ i. bytes_of (sym (ap (λ (x : LogView). x.file) is) i) (sym still i)) in
-          let stands : StandsOn (bytes_of new.file (site.shown c.next_group.new.site)) (site.may_leave c.next_group.new.site) new = c.in_ok-group.ensures.stands told in (
-            still ∙ so_far.0,
-            stands,
-            subst (λ (l : List ℕ). ReadTo l c.args.log.now.place new.place (map (λ (group : Group). map (λ (e : Entry). e.bytes) group.entries) c.push.new.self.items)) same more,
-          ),
-    )
+          read_on (bytes_of c.args.log.now.file (site.shown c.args.site.now)) c.args.log.now.place c.in-Some.group.at old new _ _ _ (c.loop-read.invariant.so_far told) here pushed;
+      moments = λ told.
+          let last = subst (λ f. LeavesOnly site.moment site.left_since mid c.next_group.new.site (After f SameLog (site.may_leave mid))) file (c.next_group.ensures.any_moment told) in
+          chained site.moment site.left_since site.may_leave c.args.log.now.file c.args.site.now mid c.next_group.new.site (λ t i le here. g.met.S.Site.counts_now mid t i told le here) (c.loop-read.invariant.moments told) last;
+    }
 
-pub returns-clause-ended : goal.returns-clause-ended
-returns-clause-ended g c =
-    let old = c.loop-read.log in
-    let new = c.next_group.new.self in
-    let none : c.in_ok-group.field-0 ≡ None = search rules in
-    let is : new ≡ record old { length = new.length; ended = true } = subst (λ o. IfNone o (new ≡ record old { length = new.length; ended = true })) none c.in_ok-group.ensures.ended in
-    let kept = c.loop-read.invariant in
-    (ap (λ (x : LogView). x.ended) is, ap (λ (x : LogView). x.file) is ∙ kept.1, ap (λ (x : LogView). x.payload) is ∙ kept.0, ap (λ (x : LogView). x.spare) is ∙ kept.2)
+pub returns-in_default-push-clause-any_moment : goal.returns-in_default-push-clause-any_moment
+returns-in_default-push-clause-any_moment g c = λ told.
+    let site = g.S.Site in
+    let mid = c.loop-read.site in
+    let last = subst (λ f. LeavesOnly site.moment site.left_since mid c.next_group.new.site (After f SameLog (site.may_leave mid))) (ap (λ (l : LogView). l.file) c.loop-read.invariant.kept) (c.next_group.ensures.any_moment told) in
+    chained site.moment site.left_since site.may_leave c.args.log.now.file c.args.site.now mid c.next_group.new.site (λ t i le here. g.met.S.Site.counts_now mid t i told le here) (c.loop-read.invariant.moments told) last
+
+pub returns-clause-any_moment : goal.returns-clause-any_moment
+returns-clause-any_moment g c = λ told.
+    let site = g.S.Site in
+    let mid = c.loop-read.site in
+    let last = subst (λ f. LeavesOnly site.moment site.left_since mid c.next_group.new.site (After f SameLog (site.may_leave mid))) (ap (λ (l : LogView). l.file) c.loop-read.invariant.kept) (c.next_group.ensures.any_moment told) in
+    chained site.moment site.left_since site.may_leave c.args.log.now.file c.args.site.now mid c.next_group.new.site (λ t i le here. g.met.S.Site.counts_now mid t i told le here) (c.loop-read.invariant.moments told) last
