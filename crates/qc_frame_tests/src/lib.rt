@@ -1,15 +1,23 @@
 //! Logs and journals over a site in memory: what is read of them, and what each image has where the site stops.
 //!
-//! The functions here are what the tests do: a log or a journal read to its end, and a group or a fact more.
+//! The functions here are what the tests do: a log or a journal read to its end, and a group or a fact more. They are
+//! proved over each site, so over [`Untold`] too, which tells nothing of what it holds.
 #![tactic(auto)]
 
-ghost use Rattle.std.specs.Prelude.{◌≡◌, ◌≤◌, ◌+◌, [], true, length, IfOk, OnOk, max};
+ghost use Rattle.std.specs.Prelude.{◌≡◌, ◌≤◌, ◌+◌, ◌++◌, ℕ, List, [], ◌∷◌, true, length, take, map, IfOk, OnOk, IsErrOf, max};
 ghost use Rattle.qc_base.specs.Spelling.{spelled_fact, is_fact};
-ghost use Rattle.qc_frame.specs.Log.{Stands};
+ghost use Rattle.qc_site.specs.Causes.{HasCause};
+ghost use Rattle.qc_site.specs.declared.site.SiteFile.TheVariants.{Journal as the_file};
+ghost use Rattle.qc_frame.specs.Frame.{groups};
+ghost use Rattle.qc_frame.specs.Log.{Stands, Spelled, SameLog};
+ghost use Rattle.qc_journal.specs.History.{journal_header};
 ghost use Rattle.qc_journal.specs.Journal.{JournalStands};
 
-use qc_base::Fact;
-use qc_frame::{Group, Log, LogError, read_to_end};
+mod adapter;
+
+pub use adapter::Untold;
+use qc_base::{Fact, Word};
+use qc_frame::{Group, Log, LogError, force_and_read, read_to_end};
 use qc_journal::{Journal, size_of_fact};
 use qc_site::{Site, SiteFile};
 use std::alloc::Global;
@@ -19,7 +27,10 @@ const HEADER: [u8; 16] = *b"QC-JOURNAL-0001\n";
 /// Opens the log in the journal's file and reads it to its end.
 pub fn open_at_end<S: Site>(alloc: Global, site: &mut S) -> Result<(Log, Vec<Group>), LogError>
     ensures stands { IfOk result (λ r. Stands S.told (S.shown site.new) (S.may_leave site.new) r.0) }
-    ensures ended { IfOk result (λ r. (r.0.ended ≡ true) × (r.0.payload ≡ [])) }
+    ensures ended { IfOk result (λ r. (r.0.file ≡ the_file) × (r.0.ended ≡ true) × (r.0.payload ≡ [])) }
+    ensures header { S.told → OnOk result (take 16 (S.shown site.old).journal ≡ journal_header) }
+    ensures same { S.told → OnOk result (SameLog (S.shown site.old).journal (S.shown site.new).journal) }
+    ensures cause { HasCause (S.faults site.old) (S.faults site.new) (IsErrOf result LogError.SiteFault) }
 {
     let mut log = Log::open(alloc, site, SiteFile::Journal, &HEADER)?;
     let groups = read_to_end(alloc, &mut log, site)?;
@@ -45,6 +56,26 @@ pub fn add<S: Site>(
     log.stage(bytes);
     log.force(site)?;
     Ok(())
+}
+
+/// Two entries as one group more in the journal's file, and then all of its groups.
+pub fn add_and_read<S: Site>(
+    alloc: Global,
+    site: &mut S,
+    first: &[u8],
+    second: &[u8],
+) -> Result<Vec<Group>, LogError>
+    requires some { (1 ≤ length first.now) × (1 ≤ length second.now) }
+    requires fit { (length first.now ≤ 1000) × (length second.now ≤ 1000) }
+    ensures read { S.told → (before : List (List (List ℕ))) → Spelled (groups (S.shown site.old).journal) before → IfOk result (λ v. map (λ group. map (λ e. e.bytes) group.entries) v.items ≡ before ++ (first.now ∷ second.now ∷ []) ∷ []) }
+    ensures cause { HasCause (S.faults site.old) (S.faults site.new) (IsErrOf result LogError.SiteFault) }
+{
+    let (mut log, _) = open_at_end(alloc, site)?;
+    let mut entries = Vec::with_capacity(alloc, 2)?;
+    entries.push_reserved(Word::over(first.to_vec(alloc)?));
+    entries.push_reserved(Word::over(second.to_vec(alloc)?));
+    log.reserve(alloc, first.len() + second.len() + 8)?;
+    force_and_read(alloc, &mut log, site, &HEADER, &entries)
 }
 
 /// Opens the journal and reads it to its end: the facts with the offsets of their entries.

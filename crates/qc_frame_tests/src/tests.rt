@@ -296,3 +296,80 @@ fn damage_is_named_by_its_entry(rt: HostRuntime) -> Result<(), Fail> {
     assert_eq!(rt; opened_with(alloc, 16, 0)?, None);
     Ok(())
 }
+
+// The bytes of each entry with a `,` behind it, and of each group with a `;`.
+fn text_of(alloc: Global, groups: &[Group]) -> Result<Vec<u8>, Fail> {
+    let mut text = Vec::new(alloc);
+    for group in groups {
+        for entry in group.entries.as_slice() {
+            text.extend_from_slice(entry.bytes.as_slice())?;
+            text.push(b',')?;
+        }
+        text.push(b';')?;
+    }
+    Ok(text)
+}
+
+// Makes a log over this site, and adds two groups to it.
+fn made_and_read<S: Site>(alloc: Global, site: &mut S) -> Result<Vec<u8>, Fail> {
+    Log::make(site, FILE, &HEADER)?;
+    add_and_read(alloc, site, b"one", b"two and more")?;
+    let groups = add_and_read(alloc, site, b"three", b"4")?;
+    text_of(alloc, &groups)
+}
+
+#[test]
+fn what_is_read_is_what_was_forced(rt: HostRuntime) -> Result<(), Fail> {
+    let alloc = rt.alloc();
+    let text = b"one,two and more,;three,4,;";
+    let mut site = MemSite::make(alloc)?;
+    assert_eq!(rt;
+        made_and_read(alloc, &mut site)?.as_slice(),
+        text.as_slice()
+    );
+    // the bytes go through a site that tells nothing of them
+    let mut untold = Untold::over(MemSite::make(alloc)?);
+    assert_eq!(rt;
+        made_and_read(alloc, &mut untold)?.as_slice(),
+        text.as_slice()
+    );
+    assert_eq!(rt; untold.faults(), 0);
+    Ok(())
+}
+
+// The error where the site below stops at this call, and how often the site above it has failed.
+fn untold_stopped(
+    alloc: Global,
+    kind: CallKind,
+    nth: u32,
+) -> Result<(Option<LogError>, u64), Fail> {
+    let mut inner = site_with_a_group(alloc)?;
+    inner.set_plan(stop_at(alloc, kind, nth)?);
+    let mut site = Untold::over(inner);
+    let error = add_and_read(alloc, &mut site, b"two", b"three").err();
+    Ok((error, site.faults()))
+}
+
+#[test]
+fn an_untold_site_counts_its_faults(rt: HostRuntime) -> Result<(), Fail> {
+    let alloc = rt.alloc();
+    let table = [
+        // as the log is opened, as its group is written, and as it is opened again
+        (CallKind::Sync(FILE), 1),
+        (CallKind::Len(FILE), 1),
+        (CallKind::Read(FILE), 2),
+        (CallKind::Write(FILE), 1),
+        (CallKind::Sync(FILE), 2),
+        (CallKind::Write(FILE), 2),
+        (CallKind::Sync(FILE), 3),
+        (CallKind::Sync(FILE), 4),
+    ];
+    for (kind, nth) in table {
+        assert_eq!(rt;
+            untold_stopped(alloc, kind, nth)?,
+            (Some(LogError::SiteFault), 1)
+        );
+    }
+    assert_eq!(rt; untold_stopped(alloc, CallKind::RowPut, 1)?, (None, 0));
+    Ok(())
+}
