@@ -1,5 +1,5 @@
 -- Worked lines, and the bytes that have to come of them.
-use Rattle.std.specs.Prelude.{ℕ, List, [], ◌∷◌, codes}
+use Rattle.std.specs.Prelude.{ℕ, List, [], ◌∷◌, ◌++◌, take, drop, codes}
 use Rattle.qc_base.specs.declared.order.Order.{Order}
 use Rattle.qc_base.specs.declared.order.Act.TheVariants.{Send, Queues}
 use Rattle.qc_base.specs.declared.order.RawArg.TheVariants.{Text, Whole}
@@ -62,6 +62,10 @@ sent_journal =
     ∷ 0x65 ∷ 0x72 ∷ 0x73 ∷ 0x05 ∷ 0x4f ∷ 0x72 ∷ 0x64 ∷ 0x65 ∷ 0x72 ∷ 0x01 ∷ 0x05 ∷ 0x50 ∷ 0x6c ∷ 0x61 ∷ 0x63 ∷ 0x65
     ∷ 0x02 ∷ 0x01 ∷ 0x04 ∷ 0x62 ∷ 0x6f ∷ 0x6c ∷ 0x74 ∷ 0x02 ∷ 0x00 ∷ 0x00 ∷ 0x00 ∷ 0x00 ∷ 0x00 ∷ 0x00 ∷ 0x00 ∷ 0x04
     ∷ 0x00 ∷ []
+
+-- the journal with the tag of its fact set to 0
+abbrev pub untagged_journal : List ℕ
+untagged_journal = take 25 sent_journal ++ 0 ∷ drop 26 sent_journal
 
 -- the replies where the journal has no room for the send
 abbrev pub full_and_listed : List ℕ

@@ -7,9 +7,10 @@ ghost use Rattle.qc_site.specs.Image.{Image};
 ghost use Rattle.qc_frame.specs.Frame.{group};
 ghost use Rattle.qc_journal.specs.History.{fact_payload};
 ghost use Rattle.qc_orders.specs.Orders.{asks, order_of};
+ghost use Rattle.qc_hub.specs.Opening.{DamagedAt};
 ghost use Rattle.qc_hub.specs.Sites.{ReadsAs, IsSiteOf, as_read};
 ghost use Rattle.qc_drill.specs.Headline.{programs_limits, run_out, run_to};
-ghost use Rattle.qc_drill.specs.Worked.{made_journal, just_made, made_within, send_and_queues, send_order, queues_order, sent_and_listed, sent_fact, sent_group, sent_journal, full_and_listed, two_sends_and_queues, two_sent_and_listed};
+ghost use Rattle.qc_drill.specs.Worked.{made_journal, just_made, made_within, send_and_queues, send_order, queues_order, sent_and_listed, sent_fact, sent_group, sent_journal, untagged_journal, full_and_listed, two_sends_and_queues, two_sent_and_listed};
 
 /// A send to a journal that was just made, and a listing: what is read, what is written, and the bytes that the journal
 /// then has (docs/FORMATS.md, "Order lines" and "Examples in bytes").
@@ -25,6 +26,11 @@ pub fn a_send_is_listed()
 /// A group without its last byte isn't there (docs/FORMATS.md, "Examples in bytes").
 pub fn a_group_that_is_cut_is_closed()
     ensures { (image : Image) → image.journal ≡ take 80 sent_journal → ReadsAs programs_limits image (as_read programs_limits no_facts (record { gate = 16; size = 80 })) }
+{}
+
+/// A fact without its tag is damage, at the offset of its entry (docs/FORMATS.md, "Examples in bytes").
+pub fn a_fact_without_its_tag_is_damage()
+    ensures { DamagedAt untagged_journal 21 }
 {}
 
 /// The send takes 64 bytes of the journal, and is refused where one byte of them is missing (docs/RULES.md, "Room").
