@@ -4,3 +4,4 @@ pub mod Holds
 pub mod Progress
 pub mod Stops
 pub mod Words
+pub mod Worked

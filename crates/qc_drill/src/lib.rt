@@ -13,6 +13,11 @@ mod drill;
 mod piece;
 mod stop;
 mod turn;
+mod worked;
 
 pub use answer::answer_line;
 pub use command::run;
+pub use worked::{
+    a_fact_without_its_tag_is_damage, a_group_that_is_cut_is_closed, a_send_is_listed,
+    a_send_takes_its_room, two_sends_are_listed,
+};

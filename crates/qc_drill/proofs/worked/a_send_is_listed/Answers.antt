@@ -1,0 +1,46 @@
+use Rattle.std.proofs.Common.{[], take, refl, sym, ap}
+use Rattle.std.specs.Str.{is_utf8, chars}
+use Rattle.std.specs.Fmt.{digits}
+use lib.Utf8.{encode}
+use Rattle.serde_json.proofs.OnLiterals.{serde_json_on_literals}
+use Rattle.qc_base.specs.Spelling.{two_bytes, eight_bytes}
+use Rattle.qc_base.specs.History.{no_facts}
+use Rattle.qc_frame.specs.Frame.{size_at, size_bytes, groups}
+use Rattle.qc_hub.specs.Sites.{file_end, as_read}
+use Rattle.qc_hub.specs.Step.{step}
+use Rattle.qc_hub.specs.Refuse.{refusal}
+use Rattle.qc_drill.specs.Headline.{programs_limits}
+use Rattle.qc_drill.proofs.worked.a_send_is_listed.Goals as goal
+
+pub returns-clause-start : goal.returns-clause-start
+unfolding size_at size_bytes
+returns-clause-start c = λ image is. record {
+  header = ap (take 16) is;
+  facts = [];
+  spelled = record { groups = ap groups is; limits = refl };
+  legal = refl;
+  is = sym (ap (λ file. as_read programs_limits no_facts (file_end file)) is);
+}
+
+pub returns-clause-orders : goal.returns-clause-orders
+unfolding is_utf8 chars encode serde_json_on_literals
+returns-clause-orders c = refl
+
+pub returns-clause-replies : goal.returns-clause-replies
+unfolding is_utf8 chars digits encode two_bytes eight_bytes step refusal serde_json_on_literals
+returns-clause-replies c = refl
+
+pub returns-clause-fact : goal.returns-clause-fact
+unfolding is_utf8 chars encode two_bytes eight_bytes step refusal serde_json_on_literals
+returns-clause-fact c = refl
+
+pub returns-clause-group : goal.returns-clause-group
+unfolding is_utf8 chars encode two_bytes eight_bytes size_bytes step refusal serde_json_on_literals
+returns-clause-group c = refl
+
+pub returns-clause-journal : goal.returns-clause-journal
+unfolding is_utf8 chars encode two_bytes eight_bytes size_at size_bytes step refusal serde_json_on_literals
+returns-clause-journal c = λ image is. record {
+  spelled = record { groups = ap groups is; limits = refl };
+  journal = sym (ap file_end is);
+}

@@ -1,0 +1,80 @@
+-- Worked lines, and the bytes that have to come of them.
+use Rattle.std.specs.Prelude.{ℕ, List, [], ◌∷◌, ◌++◌, take, drop, codes}
+use Rattle.qc_base.specs.declared.order.Order.{Order}
+use Rattle.qc_base.specs.declared.order.Act.TheVariants.{Send, Queues}
+use Rattle.qc_base.specs.declared.order.RawArg.TheVariants.{Text, Whole}
+use Rattle.qc_base.specs.History.{no_facts}
+use Rattle.qc_hub.specs.declared.limits.Limits.{Limits}
+use Rattle.qc_hub.specs.State.{State}
+use Rattle.qc_hub.specs.Sites.{as_read}
+use Rattle.qc_drill.specs.Headline.{programs_limits}
+
+-- a journal that was just made, and the state that it is read as, under the programs' limits or with another on its bytes
+
+abbrev pub made_journal : List ℕ
+made_journal = 0x51 ∷ 0x43 ∷ 0x2d ∷ 0x4a ∷ 0x4f ∷ 0x55 ∷ 0x52 ∷ 0x4e ∷ 0x41 ∷ 0x4c ∷ 0x2d ∷ 0x30 ∷ 0x30 ∷ 0x30 ∷ 0x31 ∷ 0x0a ∷ 0x00 ∷ []
+
+abbrev pub made_under : Limits → State
+made_under limits = as_read limits no_facts (record { gate = 16; size = 17 })
+
+abbrev pub just_made : State
+just_made = made_under programs_limits
+
+abbrev pub made_within : ℕ → State
+made_within bytes = made_under (record programs_limits { log_bytes = bytes })
+
+-- a send and a listing: the lines, their orders and the replies
+
+abbrev pub send_and_queues : List ℕ
+send_and_queues = codes "{\"at\":0,\"do\":\"send\",\"app\":\"Orders\",\"component\":\"Order\",\"calls\":[[\"Place\",\"bolt\",4]]}\n{\"at\":0,\"do\":\"queues\",\"app\":\"Orders\"}\n"
+
+abbrev pub send_order : Order
+send_order = record { at = 0; act = Send (codes "Orders") (codes "Order") (record { method = codes "Place"; args = Text (codes "bolt") ∷ Whole 4 ∷ [] } ∷ []) }
+
+abbrev pub queues_order : Order
+queues_order = record { at = 0; act = Queues (codes "Orders") }
+
+abbrev pub sent_and_listed : List ℕ
+sent_and_listed = codes "sent 1\nqueues Orders 1/0/0; Orders_0; Orders_1; Orders_2; Orders_3; Orders_4; Orders_DeadQueue; consumed 0\n"
+
+-- the fact that was sent, its group, and the journal with it
+
+abbrev pub sent_fact : List ℕ
+sent_fact =
+    0x02 ∷ 0x00 ∷ 0x00 ∷ 0x00 ∷ 0x00 ∷ 0x00 ∷ 0x00 ∷ 0x00 ∷ 0x01 ∷ 0x00 ∷ 0x00 ∷ 0x00 ∷ 0x00 ∷ 0x00 ∷ 0x00 ∷ 0x00
+    ∷ 0x00 ∷ 0x00 ∷ 0x24 ∷ 0x06 ∷ 0x4f ∷ 0x72 ∷ 0x64 ∷ 0x65 ∷ 0x72 ∷ 0x73 ∷ 0x05 ∷ 0x4f ∷ 0x72 ∷ 0x64 ∷ 0x65 ∷ 0x72
+    ∷ 0x01 ∷ 0x05 ∷ 0x50 ∷ 0x6c ∷ 0x61 ∷ 0x63 ∷ 0x65 ∷ 0x02 ∷ 0x01 ∷ 0x04 ∷ 0x62 ∷ 0x6f ∷ 0x6c ∷ 0x74 ∷ 0x02 ∷ 0x00
+    ∷ 0x00 ∷ 0x00 ∷ 0x00 ∷ 0x00 ∷ 0x00 ∷ 0x00 ∷ 0x04 ∷ []
+
+abbrev pub sent_group : List ℕ
+sent_group =
+    0x01 ∷ 0x00 ∷ 0x00 ∷ 0x00 ∷ 0x3b ∷ 0x00 ∷ 0x00 ∷ 0x00 ∷ 0x37
+    ∷ 0x02 ∷ 0x00 ∷ 0x00 ∷ 0x00 ∷ 0x00 ∷ 0x00 ∷ 0x00 ∷ 0x00 ∷ 0x01 ∷ 0x00 ∷ 0x00 ∷ 0x00 ∷ 0x00 ∷ 0x00 ∷ 0x00 ∷ 0x00
+    ∷ 0x00 ∷ 0x00 ∷ 0x24 ∷ 0x06 ∷ 0x4f ∷ 0x72 ∷ 0x64 ∷ 0x65 ∷ 0x72 ∷ 0x73 ∷ 0x05 ∷ 0x4f ∷ 0x72 ∷ 0x64 ∷ 0x65 ∷ 0x72
+    ∷ 0x01 ∷ 0x05 ∷ 0x50 ∷ 0x6c ∷ 0x61 ∷ 0x63 ∷ 0x65 ∷ 0x02 ∷ 0x01 ∷ 0x04 ∷ 0x62 ∷ 0x6f ∷ 0x6c ∷ 0x74 ∷ 0x02 ∷ 0x00
+    ∷ 0x00 ∷ 0x00 ∷ 0x00 ∷ 0x00 ∷ 0x00 ∷ 0x00 ∷ 0x04 ∷ []
+
+abbrev pub sent_journal : List ℕ
+sent_journal =
+    0x51 ∷ 0x43 ∷ 0x2d ∷ 0x4a ∷ 0x4f ∷ 0x55 ∷ 0x52 ∷ 0x4e ∷ 0x41 ∷ 0x4c ∷ 0x2d ∷ 0x30 ∷ 0x30 ∷ 0x30 ∷ 0x31 ∷ 0x0a
+    ∷ 0x01 ∷ 0x00 ∷ 0x00 ∷ 0x00 ∷ 0x3b ∷ 0x00 ∷ 0x00 ∷ 0x00 ∷ 0x37 ∷ 0x02 ∷ 0x00 ∷ 0x00 ∷ 0x00 ∷ 0x00 ∷ 0x00 ∷ 0x00
+    ∷ 0x00 ∷ 0x01 ∷ 0x00 ∷ 0x00 ∷ 0x00 ∷ 0x00 ∷ 0x00 ∷ 0x00 ∷ 0x00 ∷ 0x00 ∷ 0x00 ∷ 0x24 ∷ 0x06 ∷ 0x4f ∷ 0x72 ∷ 0x64
+    ∷ 0x65 ∷ 0x72 ∷ 0x73 ∷ 0x05 ∷ 0x4f ∷ 0x72 ∷ 0x64 ∷ 0x65 ∷ 0x72 ∷ 0x01 ∷ 0x05 ∷ 0x50 ∷ 0x6c ∷ 0x61 ∷ 0x63 ∷ 0x65
+    ∷ 0x02 ∷ 0x01 ∷ 0x04 ∷ 0x62 ∷ 0x6f ∷ 0x6c ∷ 0x74 ∷ 0x02 ∷ 0x00 ∷ 0x00 ∷ 0x00 ∷ 0x00 ∷ 0x00 ∷ 0x00 ∷ 0x00 ∷ 0x04
+    ∷ 0x00 ∷ []
+
+-- the journal with the tag of its fact set to 0
+abbrev pub untagged_journal : List ℕ
+untagged_journal = take 25 sent_journal ++ 0 ∷ drop 26 sent_journal
+
+-- the replies where the journal has no room for the send
+abbrev pub full_and_listed : List ℕ
+full_and_listed = codes "refused 21 Full 17\nqueues Orders; Orders_0; Orders_1; Orders_2; Orders_3; Orders_4; Orders_DeadQueue; consumed 0\n"
+
+-- a send, a blank line, a send at an earlier moment, a line that is no order, and a listing that no newline ends
+
+abbrev pub two_sends_and_queues : List ℕ
+two_sends_and_queues = codes "{\"at\":5,\"do\":\"send\",\"app\":\"Orders\",\"component\":\"Order\",\"calls\":[[\"Place\",\"bolt\",4]]}\n\n{\"at\":3,\"do\":\"send\",\"app\":\"Orders\",\"component\":\"Order\",\"calls\":[[\"Place\",\"bolt\",4]]}\n{}\n{\"at\":0,\"do\":\"queues\",\"app\":\"Orders\"}"
+
+abbrev pub two_sent_and_listed : List ℕ
+two_sent_and_listed = codes "sent 1\nsent 2\nrefused 3 NotBuilt\nqueues Orders 1/0/5, 2/0/5; Orders_0; Orders_1; Orders_2; Orders_3; Orders_4; Orders_DeadQueue; consumed 0\n"
