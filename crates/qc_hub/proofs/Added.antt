@@ -1,5 +1,5 @@
 -- A hub and its site with one fact more.
-use Rattle.std.proofs.Common.{◌≡◌, ℕ, ◌+◌, ◌≤◌, max, List, [], ◌∷◌, ◌++◌, length, map, All, Bool, true, false, refl, ap, sym, ◌∙◌, subst, arith, inl, inr, ⊎_elim, length-append}
+use Rattle.std.proofs.Common.{◌≡◌, ℕ, ◌+◌, ◌≤◌, max, List, [], ◌∷◌, ◌++◌, length, take, map, All, Bool, true, false, refl, ap, sym, ◌∙◌, subst, arith, inl, inr, ⊎_elim, length-append}
 use Rattle.std.specs.List.{sum_by, list_all}
 use Rattle.std.proofs.lemmas.List.{map-append, length_push}
 use Rattle.std.proofs.lemmas.List.Elements.{All-push}
@@ -18,7 +18,7 @@ use Rattle.qc_site.specs.declared.site.SiteFile.TheVariants.{Journal}
 use Rattle.qc_frame.specs.Frame.{groups, entry, size_bytes}
 use Rattle.qc_frame.specs.Gate.{After}
 use Rattle.qc_frame.specs.Log.{Whole, WholeOrNot}
-use Rattle.qc_journal.specs.History.{SpellsHistory, fact_payload}
+use Rattle.qc_journal.specs.History.{SpellsHistory, fact_payload, journal_header}
 use Rattle.qc_journal.specs.Journal.{JournalView, JournalStands, appended}
 use Rattle.qc_hub.specs.declared.hub.Hub.{Hub}
 use Rattle.qc_hub.specs.State.{State, FileEnd, after_group, with_new_fact}
@@ -59,6 +59,7 @@ pub record Grown (hub new : Hub) (fact : Fact) (id at : ℕ) (r : Recording) (ol
   pub journal : new.journal ≡ appended hub.journal fact
   pub last : new.last ≡ hub.last
   pub limits : new.limits ≡ hub.limits
+  pub header : take 16 now ≡ take 16 old
   pub more : groups now ≡ groups old ++ fact_payload fact ∷ []
   pub was_long : hub.journal.length ≡ length old
   pub is_long : new.journal.length ≡ length now
@@ -69,6 +70,7 @@ grown-site hub new fact id at r shown now s h site g =
     let sized : hub.journal.length ≡ max (length shown.journal) (end_gate shown.journal + 1) = ap (λ (e : FileEnd). e.size) (sym h.journal ∙ site.journal) in
     let long : length now.journal ≡ max (length shown.journal) (end_gate shown.journal + 10 + length (spelled_fact fact)) = omega (arith, g.is_long, g.was_long, placed, ap (λ (j : JournalView). j.length) g.journal) in
     record {
+      header = g.header ∙ site.header;
       spelled = spells-push shown.journal now.journal s.history.facts fact site.spelled g.fits g.more;
       journal = ap (λ (e : FileEnd). after_group (4 + length (spelled_fact fact)) e) site.journal ∙ end-push shown.journal now.journal fact g.more long (omega (arith, sized, g.was_long));
     }
@@ -105,9 +107,9 @@ numbered-push messages id at r all next =
     All-push P messages m more (omega (arith, long, next))
 
 -- a crash while the fact is added
-pub crash-either : (images : Images) (fact : Fact) (shown : Image) (facts : List Fact) → SpellsHistory shown.journal facts → Certain Journal shown.journal images → is_fact fact ≡ true
+pub crash-either : (images : Images) (fact : Fact) (shown : Image) (facts : List Fact) → take 16 shown.journal ≡ journal_header → SpellsHistory shown.journal facts → Certain Journal shown.journal images → is_fact fact ≡ true
     → (c : Image) → After Journal (WholeOrNot (fact_payload fact)) images c → LeavesEither images facts (facts ++ fact ∷ []) c
-crash-either images fact shown facts spelled certain fits c left =
+crash-either images fact shown facts header spelled certain fits c left =
     let d : Image = left.0 in
     let step = left.2 in
     let bytes : c.journal ≡ step.bytes = ap (λ (x : Image). x.journal) step.is in
@@ -116,5 +118,6 @@ crash-either images fact shown facts spelled certain fits c left =
       was = d;
       there = left.1;
       others = step.is ∙ ap (λ (b : List ℕ). with_bytes Journal b d) (sym bytes);
+      header = ap (λ (b : List ℕ). take 16 b) bytes ∙ step.by.header ∙ ap (λ (b : List ℕ). take 16 b) (certain d left.1) ∙ header;
       either = ⊎_elim (λ e. inl (record { groups = ap groups bytes ∙ e ∙ was.groups; limits = was.limits })) (λ e. inr (spells-push d.journal c.journal facts fact was fits (ap groups bytes ∙ e))) step.by.either;
     }

@@ -5,3 +5,4 @@ pub mod OpeningFacts
 pub mod OpeningStates
 pub mod Sending
 pub mod Steps
+mod Rules

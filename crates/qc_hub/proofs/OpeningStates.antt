@@ -13,7 +13,7 @@ use Rattle.qc_hub.specs.Stands.{IsHubOf, IsHubOn}
 use Rattle.qc_hub.specs.Opening.{DamagedAt, HasRead}
 use Rattle.qc_hub.proofs.OpeningFacts.{facts-one, facts-after, counted-after, no-history}
 
-module _ (shown now : Image) (hub : Hub) (limits : Limits) (limited : hub.limits ≡ limits) (r : HasRead shown.journal now.journal hub) where
+module _ (shown now : Image) (hub : Hub) (limits : Limits) (limited : hub.limits ≡ limits) (header : take 16 shown.journal ≡ journal_header) (r : HasRead shown.journal now.journal hub) where
   abbrev pub read_state : State
   read_state = as_read limits (history_of r.facts) (file_end shown.journal)
 
@@ -40,12 +40,13 @@ module _ (shown now : Image) (hub : Hub) (limits : Limits) (limited : hub.limits
 
   pub site-of : IsSiteOf now read_state
   site-of = record {
+    header = r.same.header ∙ header;
     spelled = subst (λ (fs : List Fact). SpellsHistory now.journal fs) (sym all-facts) (record { groups = r.same.same ∙ r.spelled.groups; limits = r.spelled.limits });
     journal = let size : max (length shown.journal) (end_gate shown.journal + 1) ≡ max (length now.journal) (end_gate now.journal + 1) = omega (arith, r.size, end-now) in λ i. record { gate = sym end-now i; size = size i };
   }
 
-  pub reads-as : take 16 shown.journal ≡ journal_header → ReadsAs limits shown read_state
-  reads-as header = record { header = header; facts = r.facts; spelled = r.spelled; legal = r.legal; is = refl }
+  pub reads-as : ReadsAs limits shown read_state
+  reads-as = record { header = header; facts = r.facts; spelled = r.spelled; legal = r.legal; is = refl }
 
   pub hub-on : IsHubOn now hub
   hub-on = record { state = read_state; is_in = hub-of; on_site = site-of }

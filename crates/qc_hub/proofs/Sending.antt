@@ -55,7 +55,7 @@ later-stands told shown images hub new at later stands = record {
   numbered = subst AreNumbered (sym later.store) stands.numbered;
   state = λ t.
       let was = stands.state t in
-      record { state = at_moment at was.state; is_in = later-hub hub new at was.state later was.is_in; on_site = record { spelled = was.on_site.spelled; journal = was.on_site.journal } };
+      record { state = at_moment at was.state; is_in = later-hub hub new at was.state later was.is_in; on_site = record { header = was.on_site.header; spelled = was.on_site.spelled; journal = was.on_site.journal } };
 }
 
 -- where there is room, a fact is added

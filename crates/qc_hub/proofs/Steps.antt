@@ -133,7 +133,7 @@ queues-steps (Ok r) hub new s shown at app h site refused listed = by_name (is_a
         subst P (sym (step-queues s at app e)) (record {
           replies = (listed e).0 ∙ ap (λ (m : List Message). queues_shown m app) h.messages;
           is_in = subst (λ (x : Hub). IsHubOf x (at_moment at s)) (sym (listed e).1) (later-hub hub _ at s (record { store = refl; spare = hub.journal.spare; journal = refl; last = refl; limits = refl }) h);
-          on_site = record { spelled = site.spelled; journal = site.journal };
+          on_site = record { header = site.header; spelled = site.spelled; journal = site.journal };
         })
     by_name false e =
         let P : Step → Type 0 = λ t. StepsTo t new shown r in

@@ -27,7 +27,8 @@ pub record ReadsAs (limits : Limits) (image : Image) (s : State) : Type 0 where
   pub legal : is_legal facts ≡ true
   pub is : s ≡ as_read limits (history_of facts) (file_end image.journal)
 
--- the journal spells the facts of the state, and ends where the state says
+-- the journal is one that spells the facts of the state, and ends where the state says
 pub record IsSiteOf (image : Image) (s : State) : Type 0 where
+  pub header : take 16 image.journal ≡ journal_header
   pub spelled : SpellsHistory image.journal s.history.facts
   pub journal : s.journal ≡ file_end image.journal

@@ -1,5 +1,5 @@
 -- What the fields of a hub mean, and what it is for a hub to stand on its site.
-use Rattle.std.specs.Prelude.{◌≡◌, ◌≤◌, ◌⊎◌, ◌+◌, ℕ, List, length, All, true, false}
+use Rattle.std.specs.Prelude.{◌≡◌, ◌≤◌, ◌⊎◌, ◌+◌, ℕ, List, length, take, All, true, false}
 use Rattle.qc_base.specs.History.{history_of, is_legal}
 use Rattle.qc_base.specs.declared.fact.Fact.{Fact}
 use Rattle.qc_base.specs.declared.fact.Fact.TheVariants.{Sent}
@@ -9,7 +9,7 @@ use Rattle.qc_base.specs.declared.reply.Reply.{Reply}
 use Rattle.qc_site.specs.Image.{Image, with_bytes}
 use Rattle.qc_site.specs.Disk.{Images}
 use Rattle.qc_site.specs.declared.site.SiteFile.TheVariants.{Journal}
-use Rattle.qc_journal.specs.History.{SpellsHistory}
+use Rattle.qc_journal.specs.History.{SpellsHistory, journal_header}
 use Rattle.qc_journal.specs.Journal.{JournalStands}
 use Rattle.qc_hub.specs.declared.hub.Hub.{Hub}
 use Rattle.qc_hub.specs.State.{State}
@@ -60,11 +60,12 @@ pub record StaysIn (s : State) (at : ℕ) (hub : Hub) (before now : Image) : Typ
   pub is_in : IsHubOf hub s ⊎ IsHubOf hub (at_moment at s)
   pub same : now ≡ before
 
--- an image is one of those before, but that its journal spells these facts or those
+-- an image is one of those before, but that its journal, which still is one, spells these facts or those
 pub record LeavesEither (before : Images) (facts more : List Fact) (c : Image) : Type 0 where
   pub was : Image
   pub there : before was
   pub others : OthersStay was c
+  pub header : take 16 c.journal ≡ journal_header
   pub either : SpellsHistory c.journal facts ⊎ SpellsHistory c.journal more
 
 -- the fact of a message that is sent next, at this moment

@@ -74,6 +74,8 @@ impl Hub {
         ensures no_memory { S.told → (s : State) → IsHubOf self.old s → IsSiteOf (S.shown site.old) s → IsErrOf result HubError.NoMemory → StaysIn s order.now.at self.new (S.shown site.old) (S.shown site.new) }
         ensures any_moment { S.told → (s : State) → IsHubOf self.old s → IsSiteOf (S.shown site.old) s → LeavesOnly S.moment S.left_since site.old site.new
             (LeavesEither (S.may_leave site.old) s.history.facts (step s order.now).state.history.facts) }
+        ensures unsent { S.told → (s : State) → IsHubOf self.old s → IsSiteOf (S.shown site.old) s → IsErrOf result HubError.NoMemory → LeavesOnly S.moment S.left_since site.old site.new (LeavesEither (S.may_leave site.old) s.history.facts s.history.facts) }
+        ensures fault_moment { IsErrOf result HubError.SiteFault → self.new.last ≡ max order.now.at self.old.last }
         ensures in_fault { (self.new.in_fault ≡ true) ↔ IsErrOf result HubError.SiteFault }
         ensures cause { HasCause (S.faults site.old) (S.faults site.new) (IsErrOf result HubError.SiteFault) }
     {
@@ -109,6 +111,8 @@ impl Hub {
         ensures no_memory { S.told → (s : State) → IsHubOf self.old s → IsSiteOf (S.shown site.old) s → IsErrOf result HubError.NoMemory → StaysIn s at self.new (S.shown site.old) (S.shown site.new) }
         ensures any_moment { S.told → (s : State) → IsHubOf self.old s → IsSiteOf (S.shown site.old) s → LeavesOnly S.moment S.left_since site.old site.new
             (LeavesEither (S.may_leave site.old) s.history.facts (step s (record { at = at; act = Send app.now component.now calls.now })).state.history.facts) }
+        ensures unsent { S.told → (s : State) → IsHubOf self.old s → IsSiteOf (S.shown site.old) s → IsErrOf result HubError.NoMemory → LeavesOnly S.moment S.left_since site.old site.new (LeavesEither (S.may_leave site.old) s.history.facts s.history.facts) }
+        ensures fault_moment { IsErrOf result HubError.SiteFault → self.new.last ≡ max at self.old.last }
         ensures in_fault { (self.new.in_fault ≡ true) ↔ IsErrOf result HubError.SiteFault }
         ensures cause { HasCause (S.faults site.old) (S.faults site.new) (IsErrOf result HubError.SiteFault) }
     {
@@ -135,6 +139,8 @@ impl Hub {
         ensures no_memory { S.told → (s : State) → IsHubOf self.old s → IsSiteOf (S.shown site.old) s → IsErrOf result HubError.NoMemory → StaysIn s at self.new (S.shown site.old) (S.shown site.new) }
         ensures any_moment { S.told → (s : State) → IsHubOf self.old s → IsSiteOf (S.shown site.old) s → LeavesOnly S.moment S.left_since site.old site.new
             (LeavesEither (S.may_leave site.old) s.history.facts (sent_or_full (at_moment at s) recording).state.history.facts) }
+        ensures unsent { S.told → (s : State) → IsHubOf self.old s → IsSiteOf (S.shown site.old) s → IsErrOf result HubError.NoMemory → LeavesOnly S.moment S.left_since site.old site.new (LeavesEither (S.may_leave site.old) s.history.facts s.history.facts) }
+        ensures fault_moment { IsErrOf result HubError.SiteFault → self.new.last ≡ max at self.old.last }
         ensures in_fault { (self.new.in_fault ≡ true) ↔ IsErrOf result HubError.SiteFault }
         ensures cause { HasCause (S.faults site.old) (S.faults site.new) (IsErrOf result HubError.SiteFault) }
     {
@@ -169,6 +175,7 @@ impl Hub {
         ensures stands { OnOk result (HubStands S.told (S.shown site.new) (S.may_leave site.new) self.new) }
         ensures others { S.told → OnOk result (OthersStay (S.shown site.old) (S.shown site.new)) }
         ensures fault { OnErr result ((result ≡ Err HubError.SiteFault) × (self.new.in_fault ≡ true)) }
+        ensures last { self.new.last ≡ self.old.last }
         ensures no_fault { OnOk result (self.new.in_fault ≡ false) }
         ensures any_moment { S.told → (s : State) → IsHubOf self.old s → IsSiteOf (S.shown site.old) s → LeavesOnly S.moment S.left_since site.old site.new
             (LeavesEither (S.may_leave site.old) s.history.facts (s.history.facts ++ fact ∷ [])) }

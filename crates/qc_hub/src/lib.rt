@@ -10,6 +10,7 @@
 
 mod error;
 mod hub;
+mod laws;
 mod limits;
 mod listing;
 mod opening;
@@ -17,4 +18,5 @@ mod recorded;
 
 pub use error::{Damage, HubError, OpenError};
 pub use hub::Hub;
+pub use laws::steps_keep_the_rules;
 pub use limits::Limits;

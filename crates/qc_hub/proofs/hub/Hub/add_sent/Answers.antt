@@ -12,7 +12,7 @@ use Rattle.qc_hub.proofs.hub.Hub.add_sent.Goals as goal
 pub returns-in_default-clause-any_moment : goal.returns-in_default-clause-any_moment
 returns-in_default-clause-any_moment g c = λ told s h site.
     weaker g.S.Site.moment g.S.Site.left_since _ _ _ _
-    (crash-either (g.S.Site.may_leave c.args.site.now) c.args.fact (g.S.Site.shown c.args.site.now) s.history.facts site.spelled ((c.requires.stands.journal told).certain) c.requires.limits)
+    (crash-either (g.S.Site.may_leave c.args.site.now) c.args.fact (g.S.Site.shown c.args.site.now) s.history.facts site.header site.spelled ((c.requires.stands.journal told).certain) c.requires.limits)
     (c.append_forced.ensures.any_moment told)
 
 pub returns-clause-added : goal.returns-clause-added
@@ -29,6 +29,7 @@ returns-clause-added g c = λ told s h site.
       journal = c.in-Ok.ensures.journal;
       last = refl;
       limits = refl;
+      header = (c.in-Ok.ensures.forced told).header;
       more = (c.in-Ok.ensures.forced told).more;
       was_long = (c.requires.stands.journal told).size;
       is_long = (c.in-Ok.ensures.stands told).size;
@@ -51,5 +52,5 @@ returns-clause-stands g c =
 pub returns-clause-any_moment : goal.returns-clause-any_moment
 returns-clause-any_moment g c = λ told s h site.
     weaker g.S.Site.moment g.S.Site.left_since _ _ _ _
-    (crash-either (g.S.Site.may_leave c.args.site.now) c.args.fact (g.S.Site.shown c.args.site.now) s.history.facts site.spelled ((c.requires.stands.journal told).certain) c.requires.limits)
+    (crash-either (g.S.Site.may_leave c.args.site.now) c.args.fact (g.S.Site.shown c.args.site.now) s.history.facts site.header site.spelled ((c.requires.stands.journal told).certain) c.requires.limits)
     (c.append_forced.ensures.any_moment told)

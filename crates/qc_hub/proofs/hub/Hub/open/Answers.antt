@@ -1,4 +1,4 @@
-use Rattle.std.proofs.Common.{◌≡◌, ℕ, List, Err, refl, ◌∙◌, ap, subst, rules}
+use Rattle.std.proofs.Common.{◌≡◌, ℕ, List, take, Err, refl, ◌∙◌, ap, subst, rules}
 use Rattle.qc_site.specs.Image.{Image, with_bytes}
 use Rattle.qc_site.specs.declared.site.SiteFile.TheVariants.{Journal}
 use Rattle.qc_site.proofs.Moments.{weaker}
@@ -30,7 +30,7 @@ returns-clause-state g c = λ told.
     let hub : Hub = c.read_facts.new.self in
     let still : site.shown c.open.new.site ≡ site.shown c.args.site.now = c.in_ok-journal.ensures.same told (search rules) in
     let read : HasRead (site.shown c.args.site.now).journal now.journal hub = subst (λ (i : Image). HasRead i.journal now.journal hub) still (c.in_ok-read_facts.ensures.read told) in
-    opened-as (site.shown c.args.site.now) now hub c.args.limits c.in_ok-read_facts.ensures.kept.0 read
+    opened-as (site.shown c.args.site.now) now hub c.args.limits c.in_ok-read_facts.ensures.kept.0 (c.in_ok-journal.ensures.header told) read
 
 pub returns-clause-reads : goal.returns-clause-reads
 returns-clause-reads g c = λ told.
@@ -39,8 +39,8 @@ returns-clause-reads g c = λ told.
     let hub : Hub = c.read_facts.new.self in
     let still : site.shown c.open.new.site ≡ site.shown c.args.site.now = c.in_ok-journal.ensures.same told (search rules) in
     let read : HasRead (site.shown c.args.site.now).journal now.journal hub = subst (λ (i : Image). HasRead i.journal now.journal hub) still (c.in_ok-read_facts.ensures.read told) in (
-      read_state (site.shown c.args.site.now) now hub c.args.limits c.in_ok-read_facts.ensures.kept.0 read,
-      reads-as (site.shown c.args.site.now) now hub c.args.limits c.in_ok-read_facts.ensures.kept.0 read (c.in_ok-journal.ensures.header told),
+      read_state (site.shown c.args.site.now) now hub c.args.limits c.in_ok-read_facts.ensures.kept.0 (c.in_ok-journal.ensures.header told) read,
+      reads-as (site.shown c.args.site.now) now hub c.args.limits c.in_ok-read_facts.ensures.kept.0 (c.in_ok-journal.ensures.header told) read,
     )
 
 pub returns-clause-stands : goal.returns-clause-stands
@@ -51,7 +51,10 @@ returns-clause-stands g c =
       journal = c.in_ok-read_facts.ensures.stands;
       ended = c.in_ok-read_facts.ensures.ended;
       numbered = c.in_ok-read_facts.ensures.numbered;
-      state = λ told. hub-on (site.shown c.open.new.site) (site.shown c.read_facts.new.site) hub hub.limits refl (c.in_ok-read_facts.ensures.read told);
+      state = λ told.
+          let still : site.shown c.open.new.site ≡ site.shown c.args.site.now = c.in_ok-journal.ensures.same told (search rules) in
+          let header = ap (λ (i : Image). take 16 i.journal) still ∙ c.in_ok-journal.ensures.header told in
+          hub-on (site.shown c.open.new.site) (site.shown c.read_facts.new.site) hub hub.limits refl header (c.in_ok-read_facts.ensures.read told);
     }
 
 pub returns-clause-any_moment : goal.returns-clause-any_moment

@@ -30,7 +30,7 @@ returns-clause-step g c = λ told s h site.
     let same = same-fact hub s c.args.at c.len-id.result c.later-last.result c.args.recording h c.len-id.ensures.value c.later-last.ensures.value in
     let room = room-there hub s c.args.at c.args.recording (FactSent (c.len-id.result + 1) c.later-last.result c.args.recording) _ _ h same c.size_of_fact-size.ensures c.length-length.ensures (sym c.has_room.ensures ∙ c.if-not-has_room.false) in
     let moved : IsHubOf _ t = later-hub hub _ c.args.at s (record { store = c.reserve.ensures.messages; spare = _; journal = c.in-Ok-reserve.ensures.ok; last = c.later-last.ensures.value; limits = refl }) h in
-    let there : IsSiteOf (g.S.Site.shown c.args.site.now) t = record { spelled = site.spelled; journal = site.journal } in
+    let there : IsSiteOf (g.S.Site.shown c.args.site.now) t = record { header = site.header; spelled = site.spelled; journal = site.journal } in
     let P : Step → Type 0 = λ x. IfOk c.add_sent.result (StepsTo x c.add_sent.new.self (g.S.Site.shown c.add_sent.new.site)) in
     let Q : Fact → Type 0 = λ f. OnOk c.add_sent.result (IsHubOf c.add_sent.new.self (with_new_fact f t) × IsSiteOf (g.S.Site.shown c.add_sent.new.site) (with_new_fact f t)) in
     let R : ℕ → Type 0 = λ k. IfOk c.add_sent.result (λ reply. reply ≡ Sent (k + 1)) in
@@ -47,7 +47,7 @@ returns-clause-any_moment g c = λ told s h site.
     let same = same-fact hub s c.args.at c.len-id.result c.later-last.result c.args.recording h c.len-id.ensures.value c.later-last.ensures.value in
     let room = room-there hub s c.args.at c.args.recording (FactSent (c.len-id.result + 1) c.later-last.result c.args.recording) _ _ h same c.size_of_fact-size.ensures c.length-length.ensures (sym c.has_room.ensures ∙ c.if-not-has_room.false) in
     let moved : IsHubOf _ t = later-hub hub _ c.args.at s (record { store = c.reserve.ensures.messages; spare = _; journal = c.in-Ok-reserve.ensures.ok; last = c.later-last.ensures.value; limits = refl }) h in
-    let there : IsSiteOf (g.S.Site.shown c.args.site.now) t = record { spelled = site.spelled; journal = site.journal } in
+    let there : IsSiteOf (g.S.Site.shown c.args.site.now) t = record { header = site.header; spelled = site.spelled; journal = site.journal } in
     let P : Step → Type 0 = λ x. LeavesOnly g.S.Site.moment g.S.Site.left_since c.args.site.now c.add_sent.new.site (LeavesEither (g.S.Site.may_leave c.args.site.now) s.history.facts x.state.history.facts) in
     let Q : Fact → Type 0 = λ f. LeavesOnly g.S.Site.moment g.S.Site.left_since c.args.site.now c.add_sent.new.site (LeavesEither (g.S.Site.may_leave c.args.site.now) s.history.facts (s.history.facts ++ f ∷ [])) in
     subst P (sym (room-step t c.args.recording room)) (subst Q same (c.add_sent.ensures.any_moment told t moved there))
