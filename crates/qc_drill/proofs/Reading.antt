@@ -6,6 +6,7 @@ use Rattle.qc_base.specs.Texts.{pieces_of, ended_lines, lines_of, unended_line}
 use Rattle.qc_base.specs.declared.status.Status.{Status}
 use Rattle.qc_base.specs.declared.status.Status.TheVariants.{Done, SiteFault as FaultySite, NoMemory as Starved, InputLong as LongInput}
 use Rattle.qc_site.specs.Image.{Image}
+use Rattle.qc_site.specs.Disk.{Images}
 use Rattle.qc_site.specs.Streams.{Takes}
 use Rattle.qc_hub.specs.State.{State}
 use Rattle.qc_hub.specs.declared.hub.Hub.{Hub}
@@ -13,12 +14,15 @@ use Rattle.qc_drill.specs.declared.piece.Piece.{Piece}
 use Rattle.qc_drill.specs.declared.stop.Stop.{Stop}
 use Rattle.qc_drill.specs.declared.stop.Stop.TheVariants.{SourceFault, SinkFault, SiteFault, InputLong, NoMemory}
 use Rattle.qc_drill.specs.Drill.{out_of_lines}
+use Rattle.qc_drill.specs.Crash.{IsAnswered}
 use Rattle.qc_drill.specs.Headline.{IsRunFrom, IsFrontOf, LeavesSite, run_out, ended_out, ended_to, most_input}
-use Rattle.qc_hub.specs.Stands.{IsHubOf}
+use Rattle.qc_hub.specs.Stands.{IsHubOf, HubStands}
 use Rattle.qc_drill.specs.Holds.{Holds, is_empty}
 use Rattle.qc_drill.specs.Progress.{Answered, Stopped, Taken, Going, Goes}
 use Rattle.qc_drill.specs.Stops.{status_of, ended_as}
-use Rattle.qc_drill.proofs.Growing.{stopped-lines, stopped-further}
+use Rattle.qc_base.proofs.Lines.{Longer}
+use Rattle.qc_drill.proofs.Crashes.{all-lines}
+use Rattle.qc_drill.proofs.Growing.{stopped-lines, stopped-further, stopped-answered, answers}
 
 -- what a read gives is the next of the bytes
 taken-next : (taken bytes rest : List ℕ) (count : ℕ) → bytes ≡ taken ++ rest → bytes ≡ (taken ++ take count rest) ++ drop count rest
@@ -52,20 +56,27 @@ take-front (suc k) (suc n) (x ∷ l) le = ap (λ (t : List ℕ). x ∷ t) (take-
 first-of : (count k : ℕ) (into rest : List ℕ) → take count into ≡ take count rest → k ≤ count → take k into ≡ take k (take count rest)
 first-of count k into rest given le = sym (take-front k count into le) ∙ ap (take k) given
 
-pub stopped-run : (stop : Stop) (s : State) (bytes held : List ℕ) (before : Image) (taken : List ℕ) (more count k : ℕ) (into : List ℕ) (old : Hub) (from : Piece) (left after : Option (List ℕ)) (shown now : Image) (contents written : Option (List ℕ))
+-- the lines that end in what was read are first among all
+pub read-lines : (bytes taken rest into : List ℕ) (count k : ℕ) (after : Option (List ℕ)) → bytes ≡ taken ++ rest → Takes count into after rest → k ≤ count → Longer (ended_lines (taken ++ take k into)) (lines_of bytes)
+read-lines bytes taken rest into count k after is t le =
+    let given : take k into ≡ take k rest = first-of count k into rest t.given le ∙ take-front k count rest le in
+    let whole : bytes ≡ (taken ++ take k into) ++ drop k rest = taken-next taken bytes rest k is ∙ ap (λ (l : List ℕ). (taken ++ l) ++ drop k rest) (sym given) in
+    subst (λ (b : List ℕ). Longer (ended_lines (taken ++ take k into)) (lines_of b)) (sym whole) (all-lines (taken ++ take k into) (drop k rest))
+
+pub stopped-run : (stop : Stop) (s : State) (bytes held : List ℕ) (before : Image) (taken : List ℕ) (more count k : ℕ) (into : List ℕ) (old : Hub) (from : Piece) (left after : Option (List ℕ)) (shown now : Image) (images : Images) (contents written : Option (List ℕ))
     → (g : Going s bytes held before taken more old from left shown contents) → Takes count into after g.rest → k ≤ count
-    → (stop ≡ SourceFault → ⊥) → (stop ≡ InputLong → ⊥) → Stopped s held (ended_lines (taken ++ take k into)) written → IsRunFrom s bytes held before (status_of stop) after written now
-stopped-run stop s bytes held before taken more count k into old from left after shown now contents written g t le no_source no_long stopped = by_stop stop no_source no_long
+    → (stop ≡ SourceFault → ⊥) → (stop ≡ InputLong → ⊥) → Stopped s held (ended_lines (taken ++ take k into)) written images → IsRunFrom s bytes held before (status_of stop) after written now
+stopped-run stop s bytes held before taken more count k into old from left after shown now images contents written g t le no_source no_long stopped = by_stop stop no_source no_long
   where
     all : List ℕ
     all = taken ++ take count g.rest
 
-    front : Stopped s held (lines_of all) written
+    front : Stopped s held (lines_of all) written images
     front =
         let given = take count g.rest in
-        let some : Stopped s held (ended_lines (taken ++ take k given)) written = subst (λ (l : List ℕ). Stopped s held (ended_lines (taken ++ l)) written) (first-of count k into g.rest t.given le) stopped in
-        let more : Stopped s held (ended_lines all) written = subst (λ (l : List ℕ). Stopped s held (ended_lines l) written) (append_assoc taken (take k given) (drop k given) ∙ ap (λ (l : List ℕ). taken ++ l) (take-append-drop k given)) (stopped-further s held (taken ++ take k given) (drop k given) written some) in
-        stopped-lines s held (ended_lines all) (unended_line (pieces_of all).rest) written more
+        let some : Stopped s held (ended_lines (taken ++ take k given)) written images = subst (λ (l : List ℕ). Stopped s held (ended_lines (taken ++ l)) written images) (first-of count k into g.rest t.given le) stopped in
+        let more : Stopped s held (ended_lines all) written images = subst (λ (l : List ℕ). Stopped s held (ended_lines l) written images) (append_assoc taken (take k given) (drop k given) ∙ ap (λ (l : List ℕ). taken ++ l) (take-append-drop k given)) (stopped-further s held (taken ++ take k given) (drop k given) written images some) in
+        stopped-lines s held (ended_lines all) (unended_line (pieces_of all).rest) written images more
 
     by_stop : (x : Stop) → (x ≡ SourceFault → ⊥) → (x ≡ InputLong → ⊥) → IsRunFrom s bytes held before (status_of x) after written now
     by_stop SourceFault a b = absurd (a refl)
@@ -140,19 +151,25 @@ done-run s bytes held before taken more hub new piece left shown now contents af
   site = a.leaves;
 }
 
-pub last-stopped : (stop : Stop) (s : State) (bytes held : List ℕ) (before : Image) (taken : List ℕ) (more : ℕ) (hub : Hub) (piece : Piece) (left : Option (List ℕ)) (shown now : Image) (contents after : Option (List ℕ))
-    → Going s bytes held before taken more hub piece left shown contents → (stop ≡ SourceFault → ⊥) → (stop ≡ InputLong → ⊥) → Stopped s held (lines_of taken) after → IsRunFrom s bytes held before (status_of stop) left after now
-last-stopped SourceFault s bytes held before taken more hub piece left shown now contents after g a b p = absurd (a refl)
-last-stopped InputLong s bytes held before taken more hub piece left shown now contents after g a b p = absurd (b refl)
-last-stopped SinkFault s bytes held before taken more hub piece left shown now contents after g a b p = record { taken = taken; rest = g.rest; text = p.text; source = g.source; remains = g.remains; whole = λ e. cc; size = tt; sink = p.written; replies = p.front; site = tt }
-last-stopped SiteFault s bytes held before taken more hub piece left shown now contents after g a b p = record { taken = taken; rest = g.rest; text = p.text; source = g.source; remains = g.remains; whole = λ e. cc; size = tt; sink = p.written; replies = p.front; site = tt }
-last-stopped NoMemory s bytes held before taken more hub piece left shown now contents after g a b p = record { taken = taken; rest = g.rest; text = p.text; source = g.source; remains = g.remains; whole = λ e. cc; size = tt; sink = p.written; replies = p.front; site = tt }
+pub last-stopped : (stop : Stop) (s : State) (bytes held : List ℕ) (before : Image) (taken : List ℕ) (more : ℕ) (hub : Hub) (piece : Piece) (left : Option (List ℕ)) (shown now : Image) (images : Images) (contents after : Option (List ℕ))
+    → Going s bytes held before taken more hub piece left shown contents → (stop ≡ SourceFault → ⊥) → (stop ≡ InputLong → ⊥) → Stopped s held (lines_of taken) after images → IsRunFrom s bytes held before (status_of stop) left after now
+last-stopped SourceFault s bytes held before taken more hub piece left shown now images contents after g a b p = absurd (a refl)
+last-stopped InputLong s bytes held before taken more hub piece left shown now images contents after g a b p = absurd (b refl)
+last-stopped SinkFault s bytes held before taken more hub piece left shown now images contents after g a b p = record { taken = taken; rest = g.rest; text = p.text; source = g.source; remains = g.remains; whole = λ e. cc; size = tt; sink = p.written; replies = p.front; site = tt }
+last-stopped SiteFault s bytes held before taken more hub piece left shown now images contents after g a b p = record { taken = taken; rest = g.rest; text = p.text; source = g.source; remains = g.remains; whole = λ e. cc; size = tt; sink = p.written; replies = p.front; site = tt }
+last-stopped NoMemory s bytes held before taken more hub piece left shown now images contents after g a b p = record { taken = taken; rest = g.rest; text = p.text; source = g.source; remains = g.remains; whole = λ e. cc; size = tt; sink = p.written; replies = p.front; site = tt }
 
-pub ended-run : (result : Result (Unit {0}) Stop) (s : State) (bytes held : List ℕ) (before : Image) (taken : List ℕ) (more : ℕ) (hub new : Hub) (piece : Piece) (left : Option (List ℕ)) (shown now : Image) (contents after : Option (List ℕ))
+pub ended-run : (result : Result (Unit {0}) Stop) (s : State) (bytes held : List ℕ) (before : Image) (taken : List ℕ) (more : ℕ) (hub new : Hub) (piece : Piece) (left : Option (List ℕ)) (shown now : Image) (images : Images) (contents after : Option (List ℕ))
     → (g : Going s bytes held before taken more hub piece left shown contents) → g.rest ≡ [] → (¬ IsErrOf result SourceFault) × (¬ IsErrOf result InputLong)
-    → OnOk result (Answered s held before (lines_of taken) new now after) → OnErr result (Stopped s held (lines_of taken) after) → IsRunFrom s bytes held before (ended_as result) left after now
-ended-run (Ok done) s bytes held before taken more hub new piece left shown now contents after g end kinds a p = done-run s bytes held before taken more hub new piece left shown now contents after g end a
-ended-run (Err stop) s bytes held before taken more hub new piece left shown now contents after g end kinds a p = last-stopped stop s bytes held before taken more hub piece left shown now contents after g (λ e. kinds.0 (ap (λ x. Err x) e)) (λ e. kinds.1 (ap (λ x. Err x) e)) p
+    → OnOk result (Answered s held before (lines_of taken) new now after) → OnErr result (Stopped s held (lines_of taken) after images) → IsRunFrom s bytes held before (ended_as result) left after now
+ended-run (Ok done) s bytes held before taken more hub new piece left shown now images contents after g end kinds a p = done-run s bytes held before taken more hub new piece left shown now contents after g end a
+ended-run (Err stop) s bytes held before taken more hub new piece left shown now images contents after g end kinds a p = last-stopped stop s bytes held before taken more hub piece left shown now images contents after g (λ e. kinds.0 (ap (λ x. Err x) e)) (λ e. kinds.1 (ap (λ x. Err x) e)) p
+
+-- what stands in the sink where the source ended
+pub ended-answers : (result : Result (Unit {0}) Stop) (told : Type 0) (t : told) (s : State) (bytes held : List ℕ) (before : Image) (lines : List (List ℕ)) (new : Hub) (now : Image) (images : Images) (after : Option (List ℕ)) → Longer lines (lines_of bytes)
+    → OnOk result (Answered s held before lines new now after) → OnOk result (HubStands told now images new) → OnErr result (Stopped s held lines after images) → IsAnswered s bytes held after images
+ended-answers (Ok done) told t s bytes held before lines new now images after l a stands p = answers s bytes held lines after images l (stopped-answered s held lines now after images a.written a.leaves.site (stands.journal t).certain)
+ended-answers (Err stop) told t s bytes held before lines new now images after l a stands p = answers s bytes held lines after images l p
 
 -- where source and sink tell
 

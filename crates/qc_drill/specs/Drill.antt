@@ -11,6 +11,11 @@ abbrev pub asked_step : State → Asked → Step
 asked_step s (asks order) = step s order
 asked_step s not_read = record { state = s; reply = Refused NotBuilt }
 
+-- the moment of the order that is asked for
+abbrev pub asked_at : Asked → ℕ
+asked_at (asks order) = order.at
+asked_at not_read = 0
+
 -- the step of a line that isn't blank
 abbrev pub line_step : State → List ℕ → Step
 line_step s line = if nat_le (length line) 65536 then asked_step s (order_of line) else record { state = s; reply = Refused LineTooLong }

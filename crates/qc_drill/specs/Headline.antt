@@ -61,6 +61,7 @@ LeavesState s taken before now _ = Unit {0}
 abbrev pub EndsBy : List ℕ → Status → Type 0
 EndsBy taken Done = length taken ≤ most_input
 EndsBy taken InputLong = most_input < length taken
+EndsBy taken SourceFault = length taken ≤ most_input
 EndsBy taken _ = Unit {0}
 
 -- A run from a state, over these bytes, behind what the sink held before: what was taken from the front of the bytes,

@@ -1,7 +1,9 @@
+pub mod Crash
 pub mod Drill
 pub mod Headline
 pub mod Holds
 pub mod Progress
 pub mod Stops
+pub mod Unopened
 pub mod Words
 pub mod Worked

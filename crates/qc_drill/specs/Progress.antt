@@ -1,13 +1,17 @@
 -- How far a drill has come.
-use Rattle.std.specs.Prelude.{◌≡◌, ℕ, ◌+◌, ◌-◌, List, [], ◌++◌, length, Option, Some}
+use Rattle.std.specs.Prelude.{◌≡◌, ◌⊎◌, ℕ, ◌+◌, ◌-◌, List, [], ◌++◌, length, Option, Some}
 use Rattle.qc_base.specs.Texts.{pieces_of, ended_lines}
+use Rattle.qc_orders.specs.Orders.{order_of}
 use Rattle.qc_site.specs.Image.{Image}
+use Rattle.qc_site.specs.Disk.{Images}
 use Rattle.qc_hub.specs.State.{State}
+use Rattle.qc_hub.specs.Step.{at_moment}
 use Rattle.qc_hub.specs.Sites.{IsSiteOf}
 use Rattle.qc_hub.specs.declared.hub.Hub.{Hub}
 use Rattle.qc_hub.specs.Stands.{IsHubOf}
 use Rattle.qc_drill.specs.declared.piece.Piece.{Piece}
-use Rattle.qc_drill.specs.Drill.{out_of_line, after_line, out_of_lines, after_lines}
+use Rattle.qc_drill.specs.Drill.{asked_at, out_of_line, after_line, out_of_lines, after_lines}
+use Rattle.qc_drill.specs.Crash.{StopsBetween}
 use Rattle.qc_drill.specs.Headline.{IsFrontOf, LeavesSite, most_input}
 use Rattle.qc_drill.specs.Holds.{Holds}
 
@@ -17,17 +21,25 @@ pub record AnswersLine (s : State) (line : List ℕ) (hub : Hub) (shown : Image)
   pub is_in : IsHubOf hub (after_line s line)
   pub on_site : IsSiteOf shown (after_line s line)
 
+-- nothing changed but the last moment seen, or the line was carried out
+pub record MayStand (s : State) (line : List ℕ) (hub : Hub) (shown : Image) : Type 0 where
+  pub state : State
+  pub is_in : IsHubOf hub state
+  pub on_site : IsSiteOf shown state
+  pub by : (state ≡ s) ⊎ ((state ≡ at_moment (asked_at (order_of line)) s) ⊎ (state ≡ after_line s line))
+
 -- these lines are answered, behind what the sink held before
 pub record Answered (s : State) (held : List ℕ) (before : Image) (lines : List (List ℕ)) (hub : Hub) (shown : Image) (contents : Option (List ℕ)) : Type 0 where
   pub written : contents ≡ Some (held ++ out_of_lines s lines)
   pub is_in : IsHubOf hub (after_lines s lines)
   pub leaves : LeavesSite before shown (after_lines s lines)
 
--- a front of the replies to these lines was written
-pub record Stopped (s : State) (held : List ℕ) (lines : List (List ℕ)) (contents : Option (List ℕ)) : Type 0 where
+-- a front of the replies to these lines was written, and each image has the facts of the lines that are answered
+pub record Stopped (s : State) (held : List ℕ) (lines : List (List ℕ)) (contents : Option (List ℕ)) (now : Images) : Type 0 where
   pub text : List ℕ
   pub written : contents ≡ Some (held ++ text)
   pub front : IsFrontOf (out_of_lines s lines) text
+  pub between : StopsBetween s lines text now
 
 -- the lines that end in the bytes taken are answered, and the piece holds what stands behind them
 pub record Taken (s : State) (held : List ℕ) (before : Image) (taken : List ℕ) (hub : Hub) (piece : Piece) (shown : Image) (contents : Option (List ℕ)) : Type 0 where

@@ -5,9 +5,10 @@ ghost use Rattle.qc_site.specs.Disk.{LeavesOnly};
 ghost use Rattle.qc_site.specs.Causes.{HasCause};
 ghost use Rattle.qc_hub.specs.State.{State};
 ghost use Rattle.qc_hub.specs.Sites.{IsSiteOf};
-ghost use Rattle.qc_hub.specs.Stands.{IsHubOf, HubStands, StepsTo, OthersStay, LeavesEither};
-ghost use Rattle.qc_drill.specs.Drill.{line_step, with_newline, after_line};
-ghost use Rattle.qc_drill.specs.Progress.{AnswersLine};
+ghost use Rattle.qc_hub.specs.Stands.{IsHubOf, HubStands, StepsTo, OthersStay, StaysIn, LeavesEither};
+ghost use Rattle.qc_orders.specs.Orders.{order_of};
+ghost use Rattle.qc_drill.specs.Drill.{asked_at, line_step, with_newline, after_line};
+ghost use Rattle.qc_drill.specs.Progress.{AnswersLine, MayStand};
 
 use crate::piece::LONGEST_LINE;
 use qc_base::{NoMemory, Refusal, Reply};
@@ -37,6 +38,9 @@ fn reply_to<S: Site>(
     ensures step { S.told → (s : State) → IsHubOf hub.old s → IsSiteOf (S.shown site.old) s → IfOk result (StepsTo (line_step s line.now) hub.new (S.shown site.new)) }
     ensures stands { ¬ IsErrOf result HubError.SiteFault → HubStands S.told (S.shown site.new) (S.may_leave site.new) hub.new }
     ensures others { S.told → ¬ IsErrOf result HubError.SiteFault → OthersStay (S.shown site.old) (S.shown site.new) }
+    ensures no_memory { S.told → (s : State) → IsHubOf hub.old s → IsSiteOf (S.shown site.old) s → IsErrOf result HubError.NoMemory → StaysIn s (asked_at (order_of line.now)) hub.new (S.shown site.old) (S.shown site.new) }
+    ensures any_moment { S.told → (s : State) → IsHubOf hub.old s → IsSiteOf (S.shown site.old) s → LeavesOnly S.moment S.left_since site.old site.new
+        (LeavesEither (S.may_leave site.old) s.history.facts (line_step s line.now).state.history.facts) }
     ensures in_fault { (hub.new.in_fault ≡ true) ↔ IsErrOf result HubError.SiteFault }
     ensures cause { HasCause (S.faults site.old) (S.faults site.new) (IsErrOf result HubError.SiteFault) }
 {
@@ -64,6 +68,10 @@ pub fn answer_line<S: Site>(
     ensures text { S.told → (s : State) → IsHubOf hub.old s → IsSiteOf (S.shown site.old) s → IfOk result (λ v. AnswersLine s line.now hub.new (S.shown site.new) v.items) }
     ensures stands { ¬ IsErrOf result HubError.SiteFault → HubStands S.told (S.shown site.new) (S.may_leave site.new) hub.new }
     ensures others { S.told → ¬ IsErrOf result HubError.SiteFault → OthersStay (S.shown site.old) (S.shown site.new) }
+    ensures no_memory { S.told → (s : State) → IsHubOf hub.old s → IsSiteOf (S.shown site.old) s → IsErrOf result HubError.NoMemory → MayStand s line.now hub.new (S.shown site.new) }
+    // A crash at any moment of the call leaves the history before the line or the one after it, and all else as it was.
+    ensures any_moment { S.told → (s : State) → IsHubOf hub.old s → IsSiteOf (S.shown site.old) s → LeavesOnly S.moment S.left_since site.old site.new
+        (LeavesEither (S.may_leave site.old) s.history.facts (after_line s line.now).history.facts) }
     ensures in_fault { (hub.new.in_fault ≡ true) ↔ IsErrOf result HubError.SiteFault }
     ensures cause { HasCause (S.faults site.old) (S.faults site.new) (IsErrOf result HubError.SiteFault) }
 {

@@ -2,9 +2,11 @@
 ghost use Rattle.std.specs.Prelude.{◌≡◌, ◌≤◌, ℕ, List, Some, false, IfOk, IfErr, OnOk, OnErr, IsErrOf};
 ghost use Rattle.qc_base.specs.Texts.{lines_of};
 ghost use Rattle.qc_site.specs.Image.{Image};
+ghost use Rattle.qc_site.specs.Disk.{LeavesOnly};
 ghost use Rattle.qc_site.specs.Causes.{HasCause};
 ghost use Rattle.qc_hub.specs.State.{State};
 ghost use Rattle.qc_hub.specs.Stands.{IsHubOf, HubStands};
+ghost use Rattle.qc_drill.specs.Crash.{LeavesFront, IsAnswered};
 ghost use Rattle.qc_drill.specs.Headline.{IsRunFrom, LeavesSite};
 ghost use Rattle.qc_drill.specs.Progress.{Answered, Stopped, Taken, Going, Goes};
 ghost use Rattle.qc_drill.specs.Stops.{status_of, ended_as};
@@ -38,6 +40,10 @@ fn take_some<S: Site, I: Source, O: Sink>(
         → IfOk result (λ n. Goes s bytes held before taken more n hub.new piece.new (I.left source.new) (S.shown site.new) (O.contents sink.new)) }
     ensures stopped { S.told → (s : State) (bytes held : List ℕ) (before : Image) (taken : List ℕ) → Going s bytes held before taken more hub.old piece.old (I.left source.old) (S.shown site.old) (O.contents sink.old)
         → IfErr result (λ stop. IsRunFrom s bytes held before (status_of stop) (I.left source.new) (O.contents sink.new) (S.shown site.new)) }
+    ensures answered { S.told → (s : State) (bytes held : List ℕ) (before : Image) (taken : List ℕ) → Going s bytes held before taken more hub.old piece.old (I.left source.old) (S.shown site.old) (O.contents sink.old)
+        → OnErr result (IsAnswered s bytes held (O.contents sink.new) (S.may_leave site.new)) }
+    ensures any_moment { S.told → (s : State) (bytes held : List ℕ) (before : Image) (taken : List ℕ) → Going s bytes held before taken more hub.old piece.old (I.left source.old) (S.shown site.old) (O.contents sink.old)
+        → LeavesOnly S.moment S.left_since site.old site.new (LeavesFront (S.may_leave site.old) s (lines_of bytes)) }
     ensures count { IfOk result (λ n. n ≤ more) }
     ensures stands { OnOk result (HubStands S.told (S.shown site.new) (S.may_leave site.new) hub.new) }
     ensures no_fault { OnOk result (hub.new.in_fault ≡ false) }
@@ -74,7 +80,10 @@ fn finish<S: Site, O: Sink>(
     ensures done { S.told → (s : State) (held : List ℕ) (before : Image) (taken : List ℕ) → Taken s held before taken hub.old piece.now (S.shown site.old) (O.contents sink.old)
         → OnOk result (Answered s held before (lines_of taken) hub.new (S.shown site.new) (O.contents sink.new)) }
     ensures stopped { S.told → (s : State) (held : List ℕ) (before : Image) (taken : List ℕ) → Taken s held before taken hub.old piece.now (S.shown site.old) (O.contents sink.old)
-        → OnErr result (Stopped s held (lines_of taken) (O.contents sink.new)) }
+        → OnErr result (Stopped s held (lines_of taken) (O.contents sink.new) (S.may_leave site.new)) }
+    ensures stands { OnOk result (HubStands S.told (S.shown site.new) (S.may_leave site.new) hub.new) }
+    ensures any_moment { S.told → (s : State) (held : List ℕ) (before : Image) (taken : List ℕ) → Taken s held before taken hub.old piece.now (S.shown site.old) (O.contents sink.old)
+        → LeavesOnly S.moment S.left_since site.old site.new (LeavesFront (S.may_leave site.old) s (lines_of taken)) }
     ensures few_kinds { (¬ IsErrOf result Stop.SourceFault) × (¬ IsErrOf result Stop.InputLong) }
     ensures site_cause { HasCause (S.faults site.old) (S.faults site.new) (IsErrOf result Stop.SiteFault) }
     ensures sink_cause { HasCause (O.faults sink.old) (O.faults sink.new) (IsErrOf result Stop.SinkFault) }
@@ -97,6 +106,10 @@ pub(crate) fn answer_all<S: Site, I: Source, O: Sink>(
     requires no_fault { hub.old.in_fault ≡ false }
     ensures runs { S.told → (s : State) (bytes held : List ℕ) (before : Image) → IsHubOf hub.old s → LeavesSite before (S.shown site.old) s → I.left source.old ≡ Some bytes → O.contents sink.old ≡ Some held
         → IsRunFrom s bytes held before (ended_as result) (I.left source.new) (O.contents sink.new) (S.shown site.new) }
+    ensures answered { S.told → (s : State) (bytes held : List ℕ) (before : Image) → IsHubOf hub.old s → LeavesSite before (S.shown site.old) s → I.left source.old ≡ Some bytes → O.contents sink.old ≡ Some held
+        → IsAnswered s bytes held (O.contents sink.new) (S.may_leave site.new) }
+    ensures any_moment { S.told → (s : State) (bytes held : List ℕ) (before : Image) → IsHubOf hub.old s → LeavesSite before (S.shown site.old) s → I.left source.old ≡ Some bytes → O.contents sink.old ≡ Some held
+        → LeavesOnly S.moment S.left_since site.old site.new (LeavesFront (S.may_leave site.old) s (lines_of bytes)) }
     ensures site_cause { HasCause (S.faults site.old) (S.faults site.new) (IsErrOf result Stop.SiteFault) }
     ensures source_cause { HasCause (I.faults source.old) (I.faults source.new) (IsErrOf result Stop.SourceFault) }
     ensures sink_cause { HasCause (O.faults sink.old) (O.faults sink.new) (IsErrOf result Stop.SinkFault) }

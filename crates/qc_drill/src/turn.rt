@@ -2,10 +2,13 @@
 ghost use Rattle.std.specs.Prelude.{◌≡◌, ◌↔◌, ◌++◌, ◌∷◌, [], ℕ, List, true, false, IfOk, OnOk, OnErr, IsErrOf};
 ghost use Rattle.qc_base.specs.Texts.{ended_lines};
 ghost use Rattle.qc_site.specs.Image.{Image};
+ghost use Rattle.qc_site.specs.Disk.{LeavesOnly};
 ghost use Rattle.qc_site.specs.Causes.{HasCause};
 ghost use Rattle.qc_hub.specs.State.{State};
 ghost use Rattle.qc_hub.specs.Sites.{IsSiteOf};
-ghost use Rattle.qc_hub.specs.Stands.{IsHubOf, HubStands, OthersStay};
+ghost use Rattle.qc_hub.specs.Stands.{IsHubOf, HubStands, OthersStay, LeavesEither};
+ghost use Rattle.qc_drill.specs.Crash.{LeavesFront};
+ghost use Rattle.qc_drill.specs.Drill.{after_line};
 ghost use Rattle.qc_drill.specs.Holds.{Holds};
 ghost use Rattle.qc_drill.specs.Progress.{AnswersLine, Answered, Stopped, Taken};
 
@@ -30,7 +33,9 @@ pub(crate) fn answer_piece<S: Site, O: Sink>(
     ensures answered { S.told → (s : State) (held : List ℕ) (before : Image) (lines : List (List ℕ)) (line : List ℕ) → Answered s held before lines hub.old (S.shown site.old) (O.contents sink.old) → Holds piece.now line
         → OnOk result (Answered s held before (lines ++ line ∷ []) hub.new (S.shown site.new) (O.contents sink.new)) }
     ensures stopped { S.told → (s : State) (held : List ℕ) (before : Image) (lines : List (List ℕ)) (line : List ℕ) → Answered s held before lines hub.old (S.shown site.old) (O.contents sink.old) → Holds piece.now line
-        → OnErr result (Stopped s held (lines ++ line ∷ []) (O.contents sink.new)) }
+        → OnErr result (Stopped s held (lines ++ line ∷ []) (O.contents sink.new) (S.may_leave site.new)) }
+    ensures any_moment { S.told → (s : State) (held : List ℕ) (before : Image) (lines : List (List ℕ)) (line : List ℕ) → Answered s held before lines hub.old (S.shown site.old) (O.contents sink.old) → Holds piece.now line
+        → LeavesOnly S.moment S.left_since site.old site.new (LeavesFront (S.may_leave site.old) s (lines ++ line ∷ [])) }
     ensures stands { OnOk result (HubStands S.told (S.shown site.new) (S.may_leave site.new) hub.new) }
     ensures no_fault { OnOk result (hub.new.in_fault ≡ false) }
     ensures few_kinds { (¬ IsErrOf result Stop.SourceFault) × (¬ IsErrOf result Stop.InputLong) }
@@ -63,6 +68,8 @@ fn text_of_piece<S: Site>(
     ensures text { S.told → (s : State) (line : List ℕ) → IsHubOf hub.old s → IsSiteOf (S.shown site.old) s → Holds piece.now line → IfOk result (λ v. AnswersLine s line hub.new (S.shown site.new) v.items) }
     ensures stands { ¬ IsErrOf result HubError.SiteFault → HubStands S.told (S.shown site.new) (S.may_leave site.new) hub.new }
     ensures others { S.told → ¬ IsErrOf result HubError.SiteFault → OthersStay (S.shown site.old) (S.shown site.new) }
+    ensures any_moment { S.told → (s : State) (line : List ℕ) → IsHubOf hub.old s → IsSiteOf (S.shown site.old) s → Holds piece.now line → LeavesOnly S.moment S.left_since site.old site.new
+        (LeavesEither (S.may_leave site.old) s.history.facts (after_line s line).history.facts) }
     ensures in_fault { (hub.new.in_fault ≡ true) ↔ IsErrOf result HubError.SiteFault }
     ensures cause { HasCause (S.faults site.old) (S.faults site.new) (IsErrOf result HubError.SiteFault) }
 {
@@ -92,7 +99,9 @@ pub(crate) fn take_byte<S: Site, O: Sink>(
     ensures taken { S.told → (s : State) (held : List ℕ) (before : Image) (taken : List ℕ) → Taken s held before taken hub.old piece.old (S.shown site.old) (O.contents sink.old)
         → OnOk result (Taken s held before (taken ++ byte ∷ []) hub.new piece.new (S.shown site.new) (O.contents sink.new)) }
     ensures stopped { S.told → (s : State) (held : List ℕ) (before : Image) (taken : List ℕ) → Taken s held before taken hub.old piece.old (S.shown site.old) (O.contents sink.old)
-        → OnErr result (Stopped s held (ended_lines (taken ++ byte ∷ [])) (O.contents sink.new)) }
+        → OnErr result (Stopped s held (ended_lines (taken ++ byte ∷ [])) (O.contents sink.new) (S.may_leave site.new)) }
+    ensures any_moment { S.told → (s : State) (held : List ℕ) (before : Image) (taken : List ℕ) → Taken s held before taken hub.old piece.old (S.shown site.old) (O.contents sink.old)
+        → LeavesOnly S.moment S.left_since site.old site.new (LeavesFront (S.may_leave site.old) s (ended_lines (taken ++ byte ∷ []))) }
     ensures stands { OnOk result (HubStands S.told (S.shown site.new) (S.may_leave site.new) hub.new) }
     ensures no_fault { OnOk result (hub.new.in_fault ≡ false) }
     ensures few_kinds { (¬ IsErrOf result Stop.SourceFault) × (¬ IsErrOf result Stop.InputLong) }
@@ -128,7 +137,9 @@ pub(crate) fn take_bytes<S: Site, O: Sink>(
     ensures taken { S.told → (s : State) (held : List ℕ) (before : Image) (taken : List ℕ) → Taken s held before taken hub.old piece.old (S.shown site.old) (O.contents sink.old)
         → OnOk result (Taken s held before (taken ++ bytes.now) hub.new piece.new (S.shown site.new) (O.contents sink.new)) }
     ensures stopped { S.told → (s : State) (held : List ℕ) (before : Image) (taken : List ℕ) → Taken s held before taken hub.old piece.old (S.shown site.old) (O.contents sink.old)
-        → OnErr result (Stopped s held (ended_lines (taken ++ bytes.now)) (O.contents sink.new)) }
+        → OnErr result (Stopped s held (ended_lines (taken ++ bytes.now)) (O.contents sink.new) (S.may_leave site.new)) }
+    ensures any_moment { S.told → (s : State) (held : List ℕ) (before : Image) (taken : List ℕ) → Taken s held before taken hub.old piece.old (S.shown site.old) (O.contents sink.old)
+        → LeavesOnly S.moment S.left_since site.old site.new (LeavesFront (S.may_leave site.old) s (ended_lines (taken ++ bytes.now))) }
     ensures stands { OnOk result (HubStands S.told (S.shown site.new) (S.may_leave site.new) hub.new) }
     ensures no_fault { OnOk result (hub.new.in_fault ≡ false) }
     ensures few_kinds { (¬ IsErrOf result Stop.SourceFault) × (¬ IsErrOf result Stop.InputLong) }

@@ -41,6 +41,7 @@ returns-clause-group c = refl
 pub returns-clause-journal : goal.returns-clause-journal
 unfolding is_utf8 chars encode two_bytes eight_bytes size_at size_bytes step refusal serde_json_on_literals
 returns-clause-journal c = λ image is. record {
+  header = ap (take 16) is;
   spelled = record { groups = ap groups is; limits = refl };
   journal = sym (ap file_end is);
 }
