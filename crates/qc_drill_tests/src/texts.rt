@@ -1,0 +1,54 @@
+// Lines of the worked drills, and their replies.
+
+pub const SEND: &[u8] =
+    b"{\"at\":0,\"do\":\"send\",\"app\":\"Orders\",\"component\":\"Order\",\"calls\":[[\"Place\",\"bolt\",4]]}\n";
+
+pub const SEND_AT_5: &[u8] =
+    b"{\"at\":5,\"do\":\"send\",\"app\":\"Orders\",\"component\":\"Order\",\"calls\":[[\"Place\",\"bolt\",4]]}\n";
+
+pub const SEND_AT_3: &[u8] =
+    b"{\"at\":3,\"do\":\"send\",\"app\":\"Orders\",\"component\":\"Order\",\"calls\":[[\"Place\",\"bolt\",4]]}\n";
+
+// The last of repeated members counts.
+pub const SEND_AT_0_AND_5: &[u8] =
+    b"{\"at\":0,\"do\":\"send\",\"app\":\"Orders\",\"component\":\"Order\",\"calls\":[[\"Place\",\"bolt\",4]],\"at\":5}\n";
+
+pub const SEND_MOST: &[u8] =
+    b"{\"at\":0,\"do\":\"send\",\"app\":\"Orders\",\"component\":\"Order\",\"calls\":[[\"Place\",1000000000000000]]}\n";
+
+pub const SEND_TOO_MUCH: &[u8] =
+    b"{\"at\":0,\"do\":\"send\",\"app\":\"Orders\",\"component\":\"Order\",\"calls\":[[\"Place\",1000000000000001]]}\n";
+
+pub const LIST: &[u8] = b"{\"at\":0,\"do\":\"queues\",\"app\":\"Orders\"}\n";
+
+pub const LIST_UNENDED: &[u8] = b"{\"at\":0,\"do\":\"queues\",\"app\":\"Orders\"}";
+
+pub const LIST_NOT_UTF8: &[u8] = b"{\"at\":0,\"do\":\"queues\",\"app\":\"Orders\xff\"}\n";
+
+pub const EMPTY_ORDER: &[u8] = b"{}\n";
+
+pub const BLANK: &[u8] = b" \t\r\n";
+
+pub const SENT_1: &[u8] = b"sent 1\n";
+
+pub const SENT_2: &[u8] = b"sent 2\n";
+
+pub const NOT_BUILT: &[u8] = b"refused 3 NotBuilt\n";
+
+pub const LINE_TOO_LONG: &[u8] = b"refused 1 LineTooLong\n";
+
+pub const LISTED_NONE: &[u8] =
+    b"queues Orders; Orders_0; Orders_1; Orders_2; Orders_3; Orders_4; Orders_DeadQueue; consumed 0\n";
+
+pub const LISTED_1: &[u8] =
+    b"queues Orders 1/0/0; Orders_0; Orders_1; Orders_2; Orders_3; Orders_4; Orders_DeadQueue; consumed 0\n";
+
+pub const LISTED_1_AT_5: &[u8] =
+    b"queues Orders 1/0/5; Orders_0; Orders_1; Orders_2; Orders_3; Orders_4; Orders_DeadQueue; consumed 0\n";
+
+pub const LISTED_2_AT_5: &[u8] =
+    b"queues Orders 1/0/5, 2/0/5; Orders_0; Orders_1; Orders_2; Orders_3; Orders_4; Orders_DeadQueue; consumed 0\n";
+
+// The header, the group of the message and the end gate.
+pub const JOURNAL: [u8; 81] =
+    *b"QC-JOURNAL-0001\n\x01\x00\x00\x00\x3b\x00\x00\x00\x37\x02\x00\x00\x00\x00\x00\x00\x00\x01\x00\x00\x00\x00\x00\x00\x00\x00\x00\x24\x06Orders\x05Order\x01\x05Place\x02\x01\x04bolt\x02\x00\x00\x00\x00\x00\x00\x00\x04\x00";
