@@ -17,6 +17,7 @@ use Rattle.qc_site.specs.Disk.{Images, LeavesOnly, written}
 use Rattle.qc_site.specs.declared.site.SiteFile.TheVariants.{Journal}
 use Rattle.qc_site.proofs.Moments.{weaker, joined}
 use Rattle.qc_frame.specs.Frame.{groups, group, size_bytes, Leads}
+use Rattle.qc_frame.proofs.Chained.{same_log_joined, after_joined}
 use Rattle.qc_frame.specs.Gate.{After}
 use Rattle.qc_frame.specs.Log.{groups_at, SameLog}
 use Rattle.qc_frame.proofs.Groups.{length-size_bytes, groups_past-drop}
@@ -226,27 +227,12 @@ read-end told shown images now hub new t stands so_far end store last =
 
 -- moments
 
-after-twice : (images mid : Images) → ((c : Image) → mid c → After Journal SameLog images c) → (c : Image) → After Journal SameLog mid c → After Journal SameLog images c
-after-twice images mid each c from =
-    let d : Image = from.0 in
-    let first = each d from.1 in
-    let step = from.2 in
-    let bytes : d.journal ≡ first.2.bytes = ap (λ (x : Image). x.journal) first.2.is in (
-      first.0,
-      first.1,
-      record {
-        bytes = step.bytes;
-        is = step.is ∙ ap (λ (x : Image). with_bytes Journal step.bytes x) first.2.is;
-        by = record { header = step.by.header ∙ ap (λ (l : List ℕ). take 16 l) bytes ∙ first.2.by.header; same = step.by.same ∙ ap groups bytes ∙ first.2.by.same };
-      },
-    )
-
 module _ {S : Type 0} (moment : S → ℕ) (left_since : S → ℕ → Images) where
   -- one call more that leaves the groups
   pub moments-on : (old mid new : S) (images left : Images) → LeavesOnly moment left_since old mid (After Journal SameLog images) → ((c : Image) → left c → left_since mid (moment old) c) → LeavesOnly moment left_since mid new (After Journal SameLog left)
       → LeavesOnly moment left_since old new (After Journal SameLog images)
   moments-on old mid new images left so_far counts then =
-      joined moment left_since old mid new (After Journal SameLog images) so_far (weaker moment left_since mid new (After Journal SameLog left) (After Journal SameLog images) (after-twice images left (λ c here. so_far.each c (counts c here))) then)
+      joined moment left_since old mid new (After Journal SameLog images) so_far (weaker moment left_since mid new (After Journal SameLog left) (After Journal SameLog images) (after_joined Journal SameLog same_log_joined images left (λ c here. so_far.each c (counts c here))) then)
 
 pub same-moment : (images : Images) (c : Image) → images c → After Journal SameLog images c
 same-moment images c here = (c, here, record { bytes = c.journal; is = refl; by = record { header = refl; same = refl } })
