@@ -61,7 +61,8 @@ fn tell_damage<O: Sink>(alloc: Global, sink: &mut O, damage: Damage) -> Status
 /// Carries out the command that the words are, and answers how it ended (docs/RULES.md, "The program").
 ///
 /// The one command is `drill`: it opens the site, reads order lines from the source to its end, and writes the reply
-/// line of each to the sink.
+/// line of each to the sink. A crash at any moment leaves the history after a front of the lines, and each message that
+/// was acknowledged (docs/RULES.md, "What a drill promises").
 pub fn run<S: Site, I: Source, O: Sink>(
     alloc: Global,
     words: &Vec<String>,

@@ -60,6 +60,9 @@ impl Hub {
     }
 
     /// One step of the machine (docs/RULES.md, "The machine").
+    ///
+    /// `SiteFault` comes only where the site's count of faults rose. The order's fact then stands or not, the last
+    /// moment seen has moved, and the hub is in fault. After `NoMemory` nothing changed but the last moment seen.
     pub fn apply<S: Site>(
         &mut self,
         alloc: Global,
@@ -93,7 +96,9 @@ impl Hub {
         }
     }
 
-    /// Adds one message of these calls, in their order, to the input queue of the application.
+    /// Adds one message of these calls, in their order, to the input queue of the application, due at the moment used.
+    ///
+    /// It is the step of the order `send` with this own moment, and its errors are those of `apply`.
     pub fn send<S: Site>(
         &mut self,
         alloc: Global,
