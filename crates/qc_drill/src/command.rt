@@ -4,6 +4,9 @@ ghost use Rattle.std.specs.String.{string_bytes};
 ghost use Rattle.qc_base.specs.Texts.{lines_of};
 ghost use Rattle.qc_site.specs.Disk.{LeavesOnly};
 ghost use Rattle.qc_site.specs.Causes.{Rose};
+ghost use Rattle.qc_site.specs.declared.site.SiteFile.TheVariants.{Journal as the_file};
+ghost use Rattle.qc_frame.specs.Gate.{After};
+ghost use Rattle.qc_frame.specs.Log.{SameLog};
 ghost use Rattle.qc_journal.specs.History.{journal_header};
 ghost use Rattle.qc_hub.specs.State.{State};
 ghost use Rattle.qc_hub.specs.Sites.{ReadsAs};
@@ -90,6 +93,8 @@ pub fn run<S: Site, I: Source, O: Sink>(
     // On a site that stands for none: nothing is written but the line on the damage.
     ensures unopened { S.told → ((s : State) → ¬ ReadsAs programs_limits (S.shown site.old) s) → IfSome (I.left source.old) (λ bytes. IfSome (O.contents sink.old) (λ held.
         IsRunUnopened bytes held (S.shown site.old) result (I.left source.new) (O.contents sink.new) (S.shown site.new))) }
+    // Nor does a crash leave other groups of it, or other files or rows.
+    ensures unharmed { S.told → ((s : State) → ¬ ReadsAs programs_limits (S.shown site.old) s) → LeavesOnly S.moment S.left_since site.old site.new (After the_file SameLog (S.may_leave site.old)) }
     ensures unfailed { S.told → (s : State) → ReadsAs programs_limits (S.shown site.old) s → is_drill (map (λ w. string_bytes w) words.now.items) ≡ true
         → ¬ Rose (I.faults source.old) (I.faults source.new) → ¬ Rose (O.faults sink.old) (O.faults sink.new) → ¬ Rose (S.faults site.old) (S.faults site.new) → is_unfailed result ≡ true }
     ensures unmade { S.told → is_drill (map (λ w. string_bytes w) words.now.items) ≡ true → take 16 (S.shown site.old).journal ≢ journal_header → is_unmade result ≡ true }

@@ -110,3 +110,8 @@ pub returns-clause-acknowledged : goal.returns-clause-acknowledged
 returns-clause-acknowledged g c = λ told s reads. where-both _ _ _ (λ bytes held source sink.
     let state = c.in-Ok.ensures.state told s reads in
     inl (c.in-Err.ensures.answered told s bytes held (g.S.Site.shown c.args.site.now) state.0 (record { others = c.in-Ok.ensures.others told; site = state.1 }) source sink))
+
+pub returns-then-not-is_drill-clause-unharmed : goal.returns-then-not-is_drill-clause-unharmed
+returns-then-not-is_drill-clause-unharmed g c = λ told none.
+    let site = c.args.site.now in
+    started g.S.Site.moment g.S.Site.left_since site _ (λ i left. same-moment (g.S.Site.may_leave site) i (g.met.S.Site.only_now site i told left))
