@@ -10,6 +10,16 @@ fn line_of(alloc: Global, byte: u8, count: usize) -> Result<Vec<u8>, Fail> {
     Ok(line)
 }
 
+// A line with spaces behind it, so many bytes in all.
+fn padded(alloc: Global, line: &[u8], count: usize) -> Result<Vec<u8>, Fail> {
+    let mut all = line.to_vec(alloc)?;
+    for _ in line.len()..count {
+        all.push(b' ')?;
+    }
+    all.push(b'\n')?;
+    Ok(all)
+}
+
 // A send of so many calls without arguments.
 fn line_of_calls(alloc: Global, count: usize) -> Result<Vec<u8>, Fail> {
     let mut line = Vec::new(alloc);
@@ -26,10 +36,12 @@ fn line_of_calls(alloc: Global, count: usize) -> Result<Vec<u8>, Fail> {
 #[test]
 fn lines_and_orders_have_limits(rt: HostRuntime) -> Result<(), Fail> {
     let alloc = rt.alloc();
-    let table: [(Vec<u8>, &[u8]); 5] = [
+    let table: [(Vec<u8>, &[u8]); 7] = [
         (line_of(alloc, b'x', 65_536)?, NOT_BUILT),
         (line_of(alloc, b'x', 65_537)?, LINE_TOO_LONG),
         (line_of(alloc, b' ', 65_537)?, b""),
+        (padded(alloc, LIST_UNENDED, 65_536)?, LISTED_NONE),
+        (padded(alloc, LIST_UNENDED, 65_537)?, LINE_TOO_LONG),
         (line_of_calls(alloc, 64)?, SENT_1),
         (line_of_calls(alloc, 65)?, NOT_BUILT),
     ];
