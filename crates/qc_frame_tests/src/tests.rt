@@ -297,11 +297,12 @@ fn damage_is_named_by_its_entry(rt: HostRuntime) -> Result<(), Fail> {
     Ok(())
 }
 
-// The bytes of each entry with a `,` behind it, and of each group with a `;`.
+// The bytes of each entry with a `,` behind it, and of each group with a `;`, as a copy of the group has them.
 fn text_of(alloc: Global, groups: &[Group]) -> Result<Vec<u8>, Fail> {
     let mut text = Vec::new(alloc);
     for group in groups {
-        for entry in group.entries.as_slice() {
+        let copied = group.copy(alloc)?;
+        for entry in copied.entries.as_slice() {
             text.extend_from_slice(entry.bytes.as_slice())?;
             text.push(b',')?;
         }
