@@ -1,5 +1,5 @@
 // The worked lines, computed from the definitions. Nothing runs here: the contracts are the equations.
-ghost use Rattle.std.specs.Prelude.{◌≡◌, List, [], ◌∷◌, ◌++◌, map, take};
+ghost use Rattle.std.specs.Prelude.{◌≡◌, List, [], ◌∷◌, ◌++◌, map, take, codes};
 ghost use Rattle.qc_base.specs.Spelling.{spelled_fact};
 ghost use Rattle.qc_base.specs.History.{no_facts};
 ghost use Rattle.qc_base.specs.Texts.{lines_of};
@@ -10,6 +10,7 @@ ghost use Rattle.qc_orders.specs.Orders.{asks, order_of};
 ghost use Rattle.qc_hub.specs.Opening.{DamagedAt};
 ghost use Rattle.qc_hub.specs.Sites.{ReadsAs, IsSiteOf, as_read};
 ghost use Rattle.qc_drill.specs.Headline.{programs_limits, run_out, run_to};
+ghost use Rattle.qc_drill.specs.Unopened.{TellsDamage};
 ghost use Rattle.qc_drill.specs.Worked.{made_journal, just_made, made_within, send_and_queues, send_order, queues_order, sent_and_listed, sent_fact, sent_group, sent_journal, untagged_journal, full_and_listed, two_sends_and_queues, two_sent_and_listed};
 
 /// A send to a journal that was just made, and a listing: what is read, what is written, and the bytes that the journal
@@ -30,7 +31,8 @@ pub fn a_group_that_is_cut_is_closed()
 
 /// A fact without its tag is damage, at the offset of its entry (docs/FORMATS.md, "Examples in bytes").
 pub fn a_fact_without_its_tag_is_damage()
-    ensures { DamagedAt untagged_journal 21 }
+    ensures place { DamagedAt untagged_journal 21 }
+    ensures line { (image : Image) → image.journal ≡ untagged_journal → TellsDamage image (codes "damaged journal at 21\n") }
 {}
 
 /// The send takes 64 bytes of the journal, and is refused where one byte of them is missing (docs/RULES.md, "Room").

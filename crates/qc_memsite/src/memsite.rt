@@ -6,6 +6,7 @@ ghost use Rattle.qc_site.specs.Disk.{written, Torn, OneStep, Cut, FileStep, RowS
 ghost use Rattle.qc_memsite.specs.Shown.{shown_by, images_by, moment_by, since_by, reads_of, noted, Unchanged};
 ghost use Rattle.qc_memsite.specs.ChosenFile.{chosen};
 ghost use Rattle.qc_memsite.specs.Plan.{fails, AfterCall};
+ghost use Rattle.qc_memsite.specs.declared.kept.Change.TheVariants.{Wrote, CutTo, Synced, Put};
 
 use crate::account::Account;
 use crate::image::{Choice, image_kept};
@@ -214,6 +215,9 @@ impl Site for MemSite {
         ensures one_step { length bytes.now ≡ 1 → at < length (bytes_of file (shown_by self.old.kept)) → Follows (FileStep file (OneStep at bytes.now)) (images_by self.old.kept) (images_by self.new.kept) }
         ensures time { Elapses (moment_by self.old.kept) (moment_by self.new.kept) (since_by self.old.kept) (since_by self.new.kept) (images_by self.new.kept) }
         ensures cause { HasCause self.old.account.faults self.new.account.faults (IsErr result) }
+        // The call is noted once, so its images are all that the rules allow.
+        ensures noted { OnOk result ((v : _) × (v.items ≡ bytes.now) × (self.new.kept.calls.items ≡ self.old.kept.calls.items ++ Wrote file at v ∷ [])) }
+        ensures first { self.new.kept.first ≡ self.old.kept.first }
         // It fails exactly by the plan, past the bound on lengths or for want of memory, and then changes nothing.
         ensures failed { OnErr result ((fails (CallKind.Write file) self.old.plan ≡ true) ⊎ ((4611686018427387904 < at + length bytes.now) ⊎ Rose self.old.account.starved self.new.account.starved)) }
         ensures nothing { OnErr result (Unchanged self.old.kept self.new.kept) }
@@ -242,6 +246,9 @@ impl Site for MemSite {
         ensures crash { Follows (FileStep file (Cut len)) (images_by self.old.kept) (images_by self.new.kept) }
         ensures time { Elapses (moment_by self.old.kept) (moment_by self.new.kept) (since_by self.old.kept) (since_by self.new.kept) (images_by self.new.kept) }
         ensures cause { HasCause self.old.account.faults self.new.account.faults (IsErr result) }
+        // The call is noted once, so its images are all that the rules allow.
+        ensures noted { OnOk result (self.new.kept.calls.items ≡ self.old.kept.calls.items ++ CutTo file len ∷ []) }
+        ensures first { self.new.kept.first ≡ self.old.kept.first }
         // It fails exactly by the plan or for want of memory, and then changes nothing.
         ensures failed { OnErr result ((fails (CallKind.Cut file) self.old.plan ≡ true) ⊎ Rose self.old.account.starved self.new.account.starved) }
         ensures nothing { OnErr result (Unchanged self.old.kept self.new.kept) }
@@ -264,6 +271,9 @@ impl Site for MemSite {
         ensures crash { NoMore (images_by self.old.kept) (images_by self.new.kept) }
         ensures time { Elapses (moment_by self.old.kept) (moment_by self.new.kept) (since_by self.old.kept) (since_by self.new.kept) (images_by self.new.kept) }
         ensures cause { HasCause self.old.account.faults self.new.account.faults (IsErr result) }
+        // The call is noted once, so its images are all that the rules allow.
+        ensures noted { OnOk result (self.new.kept.calls.items ≡ self.old.kept.calls.items ++ Synced file ∷ []) }
+        ensures first { self.new.kept.first ≡ self.old.kept.first }
         // It fails exactly by the plan or for want of memory, and then changes nothing.
         ensures failed { OnErr result ((fails (CallKind.Sync file) self.old.plan ≡ true) ⊎ Rose self.old.account.starved self.new.account.starved) }
         ensures nothing { OnErr result (Unchanged self.old.kept self.new.kept) }
@@ -287,6 +297,9 @@ impl Site for MemSite {
         ensures certain { OnOk result (Follows (λ d c. c ≡ with_row resource.now key.now amount d) (images_by self.old.kept) (images_by self.new.kept)) }
         ensures time { Elapses (moment_by self.old.kept) (moment_by self.new.kept) (since_by self.old.kept) (since_by self.new.kept) (images_by self.new.kept) }
         ensures cause { HasCause self.old.account.faults self.new.account.faults (IsErr result) }
+        // The call is noted once, so its images are all that the rules allow.
+        ensures noted { OnOk result ((r : _) × (k : _) × (r.items ≡ resource.now) × (k.items ≡ key.now) × (self.new.kept.calls.items ≡ self.old.kept.calls.items ++ Put r k amount ∷ [])) }
+        ensures first { self.new.kept.first ≡ self.old.kept.first }
         // It fails exactly by the plan or for want of memory, and then changes nothing.
         ensures failed { OnErr result ((fails (CallKind.RowMake) self.old.plan ≡ true) ⊎ Rose self.old.account.starved self.new.account.starved) }
         ensures nothing { OnErr result (Unchanged self.old.kept self.new.kept) }
@@ -339,6 +352,9 @@ impl Site for MemSite {
         ensures certain { OnOk result (Follows (λ d c. c ≡ with_row resource.now key.now amount d) (images_by self.old.kept) (images_by self.new.kept)) }
         ensures time { Elapses (moment_by self.old.kept) (moment_by self.new.kept) (since_by self.old.kept) (since_by self.new.kept) (images_by self.new.kept) }
         ensures cause { HasCause self.old.account.faults self.new.account.faults (IsErrOf result RowFault.Failed) }
+        // The call is noted once, so its images are all that the rules allow.
+        ensures noted { OnOk result ((r : _) × (k : _) × (r.items ≡ resource.now) × (k.items ≡ key.now) × (self.new.kept.calls.items ≡ self.old.kept.calls.items ++ Put r k amount ∷ [])) }
+        ensures first { self.new.kept.first ≡ self.old.kept.first }
         // It fails exactly by the plan or for want of memory, and then changes nothing.
         ensures failed { IsErrOf result RowFault.Failed → (fails (CallKind.RowPut) self.old.plan ≡ true) ⊎ Rose self.old.account.starved self.new.account.starved }
         ensures nothing { OnErr result (Unchanged self.old.kept self.new.kept) }

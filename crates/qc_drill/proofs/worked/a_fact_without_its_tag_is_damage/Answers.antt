@@ -1,9 +1,11 @@
-use Rattle.std.proofs.Common.{◌≡◌, ◌≢◌, ℕ, List, [], ◌∷◌, take, drop, get_or, inl, inr, length, ◌≤◌, refl, ap, arith}
+use Rattle.std.proofs.Common.{◌≡◌, ◌≢◌, ℕ, List, [], ◌∷◌, take, drop, get_or, inl, inr, length, ◌≤◌, refl, sym, ap, subst, arith}
+use Rattle.std.specs.Fmt.{digits}
 use Rattle.std.proofs.lemmas.List.Elements.{All-nil, All-cons}
 use Rattle.qc_base.specs.declared.fact.Fact.{Fact}
 use Rattle.qc_base.specs.declared.fact.Fact.TheVariants.{Catalogue, Sent, Played, Failed, Moved, Switched}
 use Rattle.qc_frame.specs.Frame.{size_at, size_bytes}
 use Rattle.qc_journal.specs.History.{fact_payload}
+use Rattle.qc_hub.specs.Opening.{DamagedAt}
 use Rattle.qc_drill.specs.Worked.{untagged_journal}
 use Rattle.qc_drill.proofs.worked.a_fact_without_its_tag_is_damage.Goals as goal
 
@@ -17,9 +19,9 @@ no_fact payload tag (Failed id attempt at) e = absurd (omega (arith, tag, ap (λ
 no_fact payload tag (Moved app queue at ids) e = absurd (omega (arith, tag, ap (λ (l : List ℕ). get_or l 4 0) e))
 no_fact payload tag (Switched app on at) e = absurd (omega (arith, tag, ap (λ (l : List ℕ). get_or l 4 0) e))
 
-pub returns : goal.returns
+damaged : DamagedAt untagged_journal 21
 unfolding size_at size_bytes
-returns c =
+damaged =
     let payload = take 59 (drop 21 untagged_journal) in
     record {
       facts = [];
@@ -32,3 +34,7 @@ returns c =
         there = inr (drop 4 payload ∷ [], (refl, All-cons (λ (l : List ℕ). 1 ≤ length l) _ [] (omega arith) (All-nil _)), refl);
       });
     }
+
+pub returns : goal.returns
+unfolding digits
+returns c = record { place = damaged; line = λ image is. record { at = 21; place = subst (λ (file : List ℕ). DamagedAt file 21) (sym is) damaged; is = refl } }
