@@ -1,8 +1,8 @@
 -- What a crash leaves, line by line.
-use Rattle.std.proofs.Common.{◌≡◌, ◌⊎◌, ◌≤◌, ℕ, List, [], ◌∷◌, ◌++◌, take, false, eqb, refl, sym, ◌∙◌, ap, subst, inl, inr, ⊎_elim, append-nil, append_assoc}
+use Rattle.std.proofs.Common.{◌≡◌, ℕ, List, [], ◌∷◌, ◌++◌, take, false, eqb, refl, sym, ◌∙◌, ap, subst, inl, inr, ⊎_elim, append-nil, append_assoc}
 use Rattle.qc_base.specs.Texts.{Pieces, pieces_of, ended_lines, lines_of, unended_line}
 use Rattle.qc_base.proofs.Lines.{Longer, pieces-append}
-use Rattle.qc_site.specs.Image.{Image, bytes_of, with_bytes}
+use Rattle.qc_site.specs.Image.{Image, with_bytes}
 use Rattle.qc_site.specs.Disk.{Images, Certain, LeavesOnly}
 use Rattle.qc_site.specs.declared.site.SiteFile.TheVariants.{Journal}
 use Rattle.qc_site.proofs.Images.{with_bytes-with_bytes}

@@ -1,9 +1,9 @@
 -- How the answered lines grow, by a line and by a byte.
-use Rattle.std.proofs.Common.{◌≡◌, ◌≢◌, ℕ, List, [], ◌∷◌, ◌++◌, length, take, drop, get_or, ◌+◌, ◌<◌, Bool, true, false, cond, eqb, refl, ap, sym, ◌∙◌, subst, append-nil, append_assoc, take-append-drop, arith, leb, length-take, inl, inr, ⊎_elim, ◌⊎◌, ◌≤◌, Option, Some, None, IfSome}
+use Rattle.std.proofs.Common.{◌≡◌, ℕ, List, [], ◌∷◌, ◌++◌, length, take, drop, get_or, ◌+◌, ◌<◌, Bool, true, false, cond, eqb, refl, ap, sym, ◌∙◌, subst, append-nil, append_assoc, take-append-drop, arith, leb, length-take, inl, inr, ⊎_elim, ◌⊎◌, ◌≤◌, Option, Some, IfSome}
 use Rattle.std.proofs.lemmas.Bool.{leb-true, leb-false}
 use Rattle.std.proofs.lemmas.List.{take_more, take_all}
 use Rattle.qc_base.specs.Texts.{Pieces, pieces_of, ended_lines, lines_of}
-use Rattle.qc_base.proofs.Lines.{and_byte, pieces-push, Longer, pieces-append}
+use Rattle.qc_base.proofs.Lines.{pieces-push, Longer, pieces-append}
 use Rattle.qc_site.specs.Image.{Image, with_bytes}
 use Rattle.qc_site.specs.Disk.{Images, Certain}
 use Rattle.qc_site.specs.Streams.{Appends, AppendsPart}
@@ -16,7 +16,6 @@ use Rattle.qc_hub.specs.Stands.{IsHubOf, OthersStay, LeavesEither}
 use Rattle.qc_drill.specs.Crash.{HasEither, StopsBetween, IsAnswered}
 use Rattle.qc_drill.specs.declared.piece.Piece.{Piece}
 use Rattle.qc_drill.specs.Drill.{out_of_line, after_line, out_of_lines, after_lines}
-use Rattle.qc_drill.specs.Headline.{IsFrontOf, LeavesSite}
 use Rattle.qc_drill.specs.Holds.{Holds}
 use Rattle.qc_drill.specs.Progress.{AnswersLine, Answered, Stopped, Taken}
 

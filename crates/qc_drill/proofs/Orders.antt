@@ -1,12 +1,12 @@
 -- A line that says an order.
-use Rattle.std.proofs.Common.{◌≡◌, ◌≤◌, ℕ, List, length, Bool, true, false, cond, leb, refl, sym, ◌∙◌, ap, subst, inl, inr, ⊎_elim}
+use Rattle.std.proofs.Common.{◌≡◌, ◌≤◌, ℕ, List, length, Bool, true, false, cond, refl, sym, ◌∙◌, ap, subst, inl, inr, ⊎_elim}
 use Rattle.std.proofs.lemmas.Bool.{le-leb}
 use Rattle.qc_base.specs.declared.order.Order.{Order}
 use Rattle.qc_base.specs.declared.reply.Refusal.TheVariants.{LineTooLong}
 use Rattle.qc_base.specs.declared.reply.Reply.TheVariants.{Refused}
 use Rattle.qc_orders.specs.Orders.{Asked, asks, order_of}
 use Rattle.qc_hub.specs.State.{State}
-use Rattle.qc_hub.specs.Step.{Step, step}
+use Rattle.qc_hub.specs.Step.{step}
 use Rattle.qc_base.specs.declared.reply.Reply.{Reply}
 use Rattle.qc_base.specs.Texts.{is_blank}
 use Rattle.qc_site.specs.Image.{Image}
@@ -14,7 +14,7 @@ use Rattle.qc_hub.specs.declared.hub.Hub.{Hub}
 use Rattle.qc_hub.specs.Step.{at_moment}
 use Rattle.qc_hub.specs.Sites.{IsSiteOf}
 use Rattle.qc_hub.specs.Stands.{IsHubOf, StaysIn, StepsTo}
-use Rattle.qc_drill.specs.Drill.{asked_at, asked_step, line_step, after_line}
+use Rattle.qc_drill.specs.Drill.{asked_at, asked_step, line_step}
 use Rattle.qc_drill.specs.Progress.{MayStand}
 
 pub line-asks : (s : State) (line : List ℕ) (order : Order) → length line ≤ 65536 → order_of line ≡ asks order → line_step s line ≡ step s order

@@ -1,9 +1,8 @@
 -- A drill after one more read of its source.
-use Rattle.std.proofs.Common.{◌≡◌, ℕ, zero, suc, ◌+◌, ◌-◌, ◌<◌, ◌≤◌, min, List, [], ◌∷◌, ◌++◌, length, take, drop, refl, ap, sym, ◌∙◌, subst, arith, append-nil, append_assoc, take-append-drop, length-append, length-take-le, true, false, Option, Some, None, IfSome, Ok, Err, OnOk, OnErr, IsErrOf}
+use Rattle.std.proofs.Common.{◌≡◌, ℕ, zero, suc, ◌+◌, ◌<◌, ◌≤◌, List, [], ◌∷◌, ◌++◌, length, take, drop, refl, ap, sym, ◌∙◌, subst, arith, append-nil, append_assoc, take-append-drop, length-append, length-take-le, true, false, Option, Some, None, IfSome, Ok, Err, OnOk, OnErr, IsErrOf}
 use Rattle.std.specs.declared.result.Result.{Result}
 use Rattle.std.proofs.Math.Seq.{drop-nil}
 use Rattle.qc_base.specs.Texts.{pieces_of, ended_lines, lines_of, unended_line}
-use Rattle.qc_base.specs.declared.status.Status.{Status}
 use Rattle.qc_base.specs.declared.status.Status.TheVariants.{Done, SiteFault as FaultySite, NoMemory as Starved, InputLong as LongInput}
 use Rattle.qc_site.specs.Image.{Image}
 use Rattle.qc_site.specs.Disk.{Images}
@@ -13,9 +12,8 @@ use Rattle.qc_hub.specs.declared.hub.Hub.{Hub}
 use Rattle.qc_drill.specs.declared.piece.Piece.{Piece}
 use Rattle.qc_drill.specs.declared.stop.Stop.{Stop}
 use Rattle.qc_drill.specs.declared.stop.Stop.TheVariants.{SourceFault, SinkFault, SiteFault, InputLong, NoMemory}
-use Rattle.qc_drill.specs.Drill.{out_of_lines}
 use Rattle.qc_drill.specs.Crash.{IsAnswered}
-use Rattle.qc_drill.specs.Headline.{IsRunFrom, IsFrontOf, LeavesSite, run_out, ended_out, ended_to, most_input}
+use Rattle.qc_drill.specs.Headline.{IsRunFrom, LeavesSite, run_out, ended_out, most_input}
 use Rattle.qc_hub.specs.Stands.{IsHubOf, HubStands}
 use Rattle.qc_drill.specs.Holds.{Holds, is_empty}
 use Rattle.qc_drill.specs.Progress.{Answered, Stopped, Taken, Going, Goes}

@@ -1,8 +1,8 @@
 -- What a run has told where the site stands for no legal history.
-use Rattle.std.proofs.Common.{◌≡◌, ◌≢◌, ◌⊎◌, ℕ, List, [], ◌++◌, take, drop, Option, Some, refl, sym, ◌∙◌, ap, subst, ⊎_elim}
+use Rattle.std.proofs.Common.{◌≡◌, ◌⊎◌, ℕ, List, [], take, drop, Option, Some, refl, sym, ◌∙◌, ap, subst, ⊎_elim}
 use Rattle.std.proofs.lemmas.List.{append-nil, take-append-drop}
 use Rattle.qc_base.specs.declared.status.Status.{Status}
-use Rattle.qc_base.specs.declared.status.Status.TheVariants.{Damaged, SinkFault, SiteFault, NoMemory}
+use Rattle.qc_base.specs.declared.status.Status.TheVariants.{Damaged, SinkFault, NoMemory}
 use Rattle.qc_site.specs.Image.{Image}
 use Rattle.qc_site.specs.declared.site.SiteFile.{SiteFile}
 use Rattle.qc_site.specs.declared.site.SiteFile.TheVariants.{Journal}

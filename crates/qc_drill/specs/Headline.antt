@@ -1,7 +1,7 @@
 -- What a run of the drill says of the bytes that it wrote, and of the site that it leaves.
 use Rattle.std.specs.Prelude.{◌≡◌, ◌<◌, ◌≤◌, ℕ, List, [], ◌++◌, length, take, Option, Some, Bool, true, false}
 use Rattle.qc_base.specs.declared.status.Status.{Status}
-use Rattle.qc_base.specs.declared.status.Status.TheVariants.{Done, BadWords, SourceFault, SinkFault, SiteFault, NotMade, NoCatalogue, AlreadyMade, BadCatalogue, Damaged, InputLong, NoMemory, DoorFault, SpawnFault}
+use Rattle.qc_base.specs.declared.status.Status.TheVariants.{Done, SourceFault, SinkFault, SiteFault, NotMade, Damaged, InputLong, NoMemory}
 use Rattle.qc_base.specs.Texts.{lines_of, ended_lines}
 use Rattle.qc_site.specs.Image.{Image, with_bytes}
 use Rattle.qc_site.specs.declared.site.SiteFile.TheVariants.{Journal}

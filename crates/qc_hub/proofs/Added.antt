@@ -1,6 +1,6 @@
 -- A hub and its site with one fact more.
-use Rattle.std.proofs.Common.{◌≡◌, ℕ, ◌+◌, ◌≤◌, max, List, [], ◌∷◌, ◌++◌, length, take, map, All, Bool, true, false, refl, ap, sym, ◌∙◌, subst, arith, inl, inr, ⊎_elim, length-append}
-use Rattle.std.specs.List.{sum_by, list_all}
+use Rattle.std.proofs.Common.{◌≡◌, ℕ, ◌+◌, ◌≤◌, max, List, [], ◌∷◌, ◌++◌, length, take, All, true, false, ap, sym, ◌∙◌, subst, arith, inl, inr, ⊎_elim, length-append}
+use Rattle.std.specs.List.{sum_by}
 use Rattle.std.proofs.lemmas.List.{map-append, length_push}
 use Rattle.std.proofs.lemmas.List.Elements.{All-push}
 use Rattle.std.proofs.lemmas.List.Sums.{sum_by-append}
@@ -11,19 +11,19 @@ use Rattle.qc_base.specs.declared.message.Message.{Message}
 use Rattle.qc_base.specs.declared.recording.Recording.{Recording}
 use Rattle.qc_base.specs.Spelling.{is_fact, spelled_fact}
 use Rattle.qc_base.specs.Messages.{after_sent}
-use Rattle.qc_base.specs.History.{History, no_facts, with_fact, history_of, may_follow, is_legal}
-use Rattle.qc_site.specs.Image.{Image, bytes_of, with_bytes}
-use Rattle.qc_site.specs.Disk.{Images, FileStep, Certain}
+use Rattle.qc_base.specs.History.{History, no_facts, with_fact, may_follow}
+use Rattle.qc_site.specs.Image.{Image, with_bytes}
+use Rattle.qc_site.specs.Disk.{Images, Certain}
 use Rattle.qc_site.specs.declared.site.SiteFile.TheVariants.{Journal}
-use Rattle.qc_frame.specs.Frame.{groups, entry, size_bytes}
+use Rattle.qc_frame.specs.Frame.{groups, size_bytes}
 use Rattle.qc_frame.specs.Gate.{After}
-use Rattle.qc_frame.specs.Log.{Whole, WholeOrNot}
+use Rattle.qc_frame.specs.Log.{WholeOrNot}
 use Rattle.qc_journal.specs.History.{SpellsHistory, fact_payload, journal_header}
-use Rattle.qc_journal.specs.Journal.{JournalView, JournalStands, appended}
+use Rattle.qc_journal.specs.Journal.{JournalView, appended}
 use Rattle.qc_hub.specs.declared.hub.Hub.{Hub}
 use Rattle.qc_hub.specs.State.{State, FileEnd, after_group, with_new_fact}
 use Rattle.qc_hub.specs.Sites.{IsSiteOf, file_end, end_gate}
-use Rattle.qc_hub.specs.Stands.{IsHubOf, HubStands, IsHubOn, AreNumbered, LeavesEither, OthersStay}
+use Rattle.qc_hub.specs.Stands.{IsHubOf, AreNumbered, LeavesEither}
 use Rattle.qc_hub.proofs.Histories.{after-push, legal-push, send-follows, limits-push}
 
 -- what a journal spells with one group more

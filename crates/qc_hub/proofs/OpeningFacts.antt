@@ -12,7 +12,7 @@ use Rattle.qc_base.specs.Spelling.{is_fact, spelled_fact}
 use Rattle.qc_base.specs.History.{History, no_facts, with_fact, after_facts, history_of, may_follow, all_follow, is_legal}
 use Rattle.qc_base.proofs.Bytes.{fronts_same}
 use Rattle.qc_base.proofs.Facts.{fact-free}
-use Rattle.qc_site.specs.Image.{Image, with_bytes}
+use Rattle.qc_site.specs.Image.{Image}
 use Rattle.qc_site.specs.Disk.{Images, LeavesOnly, written}
 use Rattle.qc_site.specs.declared.site.SiteFile.TheVariants.{Journal}
 use Rattle.qc_site.proofs.Moments.{weaker, joined}

@@ -1,11 +1,10 @@
 -- A send as a step.
-use Rattle.std.proofs.Common.{◌≡◌, ℕ, ◌+◌, ◌≤◌, leb, max, List, [], ◌∷◌, ◌++◌, length, Bool, true, false, not, cond, refl, ap, sym, ◌∙◌, subst, arith, Option, Some, None, Ok, Err, IfOk, OnOk}
+use Rattle.std.proofs.Common.{◌≡◌, ℕ, ◌+◌, leb, max, [], length, Bool, true, not, ap, sym, ◌∙◌, subst, arith, Option, Some, None, Ok, Err, IfOk, OnOk}
 use Rattle.std.specs.declared.result.Result.{Result}
 use Rattle.qc_base.specs.declared.fact.Fact.{Fact}
 use Rattle.qc_base.specs.declared.fact.Fact.TheVariants.{Sent as FactSent}
 use Rattle.qc_base.specs.Spelling.{spelled_fact}
 use Rattle.qc_hub.specs.declared.limits.Limits.{Limits}
-use Rattle.qc_base.specs.declared.message.Message.{Message}
 use Rattle.qc_base.specs.declared.recording.Recording.{Recording}
 use Rattle.qc_base.specs.declared.reply.Refusal.{Refusal}
 use Rattle.qc_base.specs.declared.reply.Refusal.TheVariants.{Full}
@@ -13,7 +12,6 @@ use Rattle.qc_base.specs.declared.reply.Reply.{Reply}
 use Rattle.qc_base.specs.declared.reply.Reply.TheVariants.{Sent, Refused}
 use Rattle.qc_site.specs.Image.{Image}
 use Rattle.qc_site.specs.Disk.{Images}
-use Rattle.qc_frame.specs.Log.{StandsOn}
 use Rattle.qc_frame.proofs.Staged.{still_stands}
 use Rattle.qc_journal.specs.Journal.{JournalView, JournalStands, log_of}
 use Rattle.qc_hub.specs.declared.error.HubError.{HubError}
@@ -22,7 +20,7 @@ use Rattle.qc_hub.specs.State.{State, FileEnd, with_new_fact, has_room, fact_roo
 use Rattle.qc_hub.specs.Refuse.{fact_sent, refuse_if}
 use Rattle.qc_hub.specs.Step.{Step, at_moment, sent_or_full, send_step}
 use Rattle.qc_hub.specs.Sites.{IsSiteOf}
-use Rattle.qc_hub.specs.Stands.{IsHubOf, IsHubOn, HubStands, AreNumbered, StepsTo}
+use Rattle.qc_hub.specs.Stands.{IsHubOf, HubStands, AreNumbered, StepsTo}
 
 -- the same hub at a later moment, with other room
 pub record Later (hub new : Hub) (at : ℕ) : Type 0 where

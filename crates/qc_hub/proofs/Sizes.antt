@@ -1,8 +1,7 @@
 -- How long the spelling of what is recorded can be.
-use Rattle.std.proofs.Common.{◌≡◌, ℕ, ◌+◌, ◌*◌, ◌≤◌, leb, ltb, List, [], ◌∷◌, ◌++◌, length, map, flat_map, Bool, true, false, ◌&&◌, refl, ap, sym, ◌∙◌, arith, length-append}
+use Rattle.std.proofs.Common.{◌≡◌, ℕ, ◌*◌, ◌≤◌, ltb, List, [], ◌∷◌, ◌++◌, length, map, flat_map, Bool, true, false, ◌&&◌, refl, ap, arith, length-append}
 use Rattle.std.proofs.lemmas.Bool.{leb-true, ltb-true}
 use Rattle.std.specs.List.{list_all}
-use Rattle.std.specs.Int.{w64, to_be_bytes}
 use Rattle.qc_base.specs.Names.{is_name, is_text, is_letter, is_name_byte}
 use Rattle.qc_base.specs.Spelling.{spelled_arg, spelled_call, spelled_recording, short_bytes, eight_bytes}
 use Rattle.qc_base.specs.declared.recording.Arg.{Arg}
@@ -10,7 +9,7 @@ use Rattle.qc_base.specs.declared.recording.Call.{Call}
 use Rattle.qc_base.specs.declared.order.RawArg.{RawArg}
 use Rattle.qc_base.specs.declared.order.RawArg.TheVariants.{Text, Whole, Other}
 use Rattle.qc_base.specs.declared.order.RawCall.{RawCall}
-use Rattle.qc_hub.specs.Recorded.{arg_fits, arg_recorded, call_fits, call_recorded, as_recorded}
+use Rattle.qc_hub.specs.Recorded.{arg_fits, arg_recorded, call_fits, call_recorded}
 
 pub and-left : (a b : Bool) → (a && b) ≡ true → a ≡ true
 and-left true b h = refl

@@ -1,5 +1,5 @@
 -- What the step of each order comes to.
-use Rattle.std.proofs.Common.{◌≡◌, ℕ, ◌+◌, List, [], ◌∷◌, length, map, Bool, true, false, not, ◌&&◌, cond, leb, refl, ap, sym, ◌∙◌, subst, max, ⊎_elim, ◌⊎◌, Ok, Err, IfOk, OnErr, IsErrOf, Option, Some, None, is_none, option_and_then}
+use Rattle.std.proofs.Common.{◌≡◌, ℕ, List, [], ◌∷◌, length, map, Bool, true, false, not, cond, leb, refl, ap, sym, ◌∙◌, subst, max, ⊎_elim, ◌⊎◌, Ok, Err, IfOk, OnErr, IsErrOf, Option, Some, None, is_none, option_and_then}
 use Rattle.std.specs.List.{list_all}
 use Rattle.std.proofs.lemmas.List.{length-map}
 use Rattle.qc_base.specs.declared.order.Act.{Act}
@@ -13,7 +13,7 @@ use Rattle.qc_base.specs.declared.reply.Refusal.{Refusal}
 use Rattle.qc_base.specs.declared.reply.Refusal.TheVariants.{NotBuilt, Full}
 use Rattle.qc_base.specs.declared.reply.Reply.TheVariants.{Refused}
 use Rattle.qc_base.specs.Names.{is_app_name, is_name}
-use Rattle.qc_base.specs.Spelling.{is_recording, is_recorded, is_arg, is_call, is_between, spelled_recording}
+use Rattle.qc_base.specs.Spelling.{is_recording, is_recorded, is_arg, is_call, is_between}
 use Rattle.qc_hub.specs.Recorded.{arg_fits, arg_recorded, call_fits, call_recorded, can_be_recorded, as_recorded, recording_of}
 use Rattle.qc_hub.specs.State.{State, fact_room, has_room}
 use Rattle.qc_hub.specs.Refuse.{refuse_if, is_built, no_room, refusal, first_some, is_of_line, journal_full, fact_sent}

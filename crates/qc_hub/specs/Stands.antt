@@ -1,5 +1,5 @@
 -- What the fields of a hub mean, and what it is for a hub to stand on its site.
-use Rattle.std.specs.Prelude.{◌≡◌, ◌≤◌, ◌⊎◌, ◌+◌, ℕ, List, length, take, All, true, false}
+use Rattle.std.specs.Prelude.{◌≡◌, ◌≤◌, ◌⊎◌, ◌+◌, ℕ, List, length, take, All, true}
 use Rattle.qc_base.specs.History.{history_of, is_legal}
 use Rattle.qc_base.specs.declared.fact.Fact.{Fact}
 use Rattle.qc_base.specs.declared.fact.Fact.TheVariants.{Sent}

@@ -1,5 +1,5 @@
 -- No image has a file of more than 2^62 bytes.
-use Rattle.std.proofs.Common.{◌≡◌, inl, inr, zero, suc, ℕ, ◌+◌, ◌≤◌, ◌<◌, List, [], ◌∷◌, ◌++◌, length, take, drop, sym, ap, subst, arith, true, false, MatchBool, Bool, All, length-append}
+use Rattle.std.proofs.Common.{◌≡◌, inl, inr, zero, suc, ℕ, ◌+◌, ◌≤◌, List, [], ◌∷◌, ◌++◌, length, take, drop, sym, ap, subst, arith, true, false, MatchBool, Bool, All, length-append}
 use Rattle.std.proofs.lemmas.List.{length-take, length-drop}
 use Rattle.qc_site.specs.Image.{Image, IsShort, bytes_of, with_bytes, with_row}
 use Rattle.qc_site.specs.Disk.{Images, Cut, FileStep, Torn, OneStep, written}

@@ -1,5 +1,4 @@
-use Rattle.std.proofs.Common.{◌≡◌, ℕ, List, Bool, true, false, Err, refl, sym, ◌∙◌, ap, subst, inl, inr, ⊎_elim, rules}
-use Rattle.qc_hub.specs.State.{State}
+use Rattle.std.proofs.Common.{sym, ◌∙◌, rules}
 use Rattle.qc_drill.proofs.Orders.{stays-stand, answered-stand}
 use Rattle.qc_drill.proofs.answer.answer_line.Goals as goal
 

@@ -1,8 +1,8 @@
-use Rattle.std.proofs.Common.{◌≡◌, ◌≤◌, ℕ, List, length, Option, sym, ◌∙◌, ap, subst, arith}
+use Rattle.std.proofs.Common.{◌≡◌, Option, sym, ◌∙◌, ap, subst, arith}
 use Rattle.qc_base.specs.declared.order.Order.{Order}
 use Rattle.qc_site.specs.Disk.{LeavesOnly}
 use Rattle.qc_orders.specs.Orders.{asked, asks, order_of}
-use Rattle.qc_hub.specs.Step.{Step, step}
+use Rattle.qc_hub.specs.Step.{Step}
 use Rattle.qc_hub.specs.Stands.{LeavesEither}
 use Rattle.qc_drill.proofs.Orders.{line-asks}
 use Rattle.qc_drill.proofs.answer.reply_to.Goals as goal

@@ -1,4 +1,4 @@
-use Rattle.std.proofs.Common.{◌≡◌, ℕ, List, Option, IfSome, inl, inr, sym, ap, subst, Err, rules}
+use Rattle.std.proofs.Common.{ℕ, List, Option, IfSome, inl, inr, sym, ap, subst, Err, rules}
 use Rattle.qc_base.specs.declared.status.Status.{Status}
 use Rattle.qc_hub.specs.declared.error.Damage.{Damage}
 use Rattle.qc_drill.specs.Headline.{IsRunFrom}

@@ -1,4 +1,4 @@
-use Rattle.std.proofs.Common.{◌≡◌, List, ℕ, ◌++◌, refl, ap, sym, ◌∙◌, subst, append-nil, OnOk, OnErr}
+use Rattle.std.proofs.Common.{List, ℕ, ◌++◌, ap, sym, ◌∙◌, subst, append-nil, OnOk, OnErr}
 use Rattle.qc_base.specs.Texts.{pieces_of, ended_lines}
 use Rattle.qc_site.specs.Disk.{LeavesOnly}
 use Rattle.qc_drill.specs.Crash.{LeavesFront}

@@ -1,4 +1,4 @@
-use Rattle.std.proofs.Common.{◌≡◌, ◌↔◌, List, ℕ, [], ◌++◌, take, refl, ap, sym, ◌∙◌, subst, arith, Some, Option, IfSome, Err}
+use Rattle.std.proofs.Common.{◌≡◌, ◌↔◌, List, ℕ, [], ◌++◌, take, ap, sym, subst, arith, Option, IfSome, Err}
 use Rattle.qc_base.specs.Texts.{ended_lines, lines_of}
 use Rattle.qc_site.specs.Disk.{LeavesOnly}
 use Rattle.qc_site.specs.Streams.{Takes}

@@ -1,4 +1,4 @@
-use Rattle.std.proofs.Common.{◌≡◌, List, ℕ, [], ◌∷◌, ◌++◌, refl, sym, ap, ◌∙◌, subst, append-nil, Option, Some, IfSome, rules}
+use Rattle.std.proofs.Common.{List, ℕ, ◌++◌, subst, IfSome, rules}
 use Rattle.qc_site.specs.Streams.{Appends, AppendsPart}
 use Rattle.qc_site.proofs.Moments.{weaker}
 use Rattle.qc_drill.proofs.Crashes.{front-either}

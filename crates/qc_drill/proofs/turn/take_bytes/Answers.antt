@@ -1,4 +1,4 @@
-use Rattle.std.proofs.Common.{◌≡◌, List, ℕ, ◌+◌, ◌++◌, ◌∷◌, [], take, drop, get_or, length, refl, ap, sym, ◌∙◌, subst, arith, take-append-drop, append_assoc, append-nil}
+use Rattle.std.proofs.Common.{List, ℕ, ◌+◌, ◌++◌, ◌∷◌, [], take, drop, get_or, ap, sym, ◌∙◌, subst, arith, take-append-drop, append_assoc, append-nil}
 use Rattle.std.proofs.lemmas.List.{take_all}
 use Rattle.qc_base.specs.Texts.{ended_lines}
 use Rattle.qc_drill.specs.Progress.{Taken, Stopped}

@@ -1,4 +1,4 @@
-use Rattle.std.proofs.Common.{◌≡◌, ◌≤◌, length, ap, subst, sym, ◌∙◌, arith, Some, IfSome}
+use Rattle.std.proofs.Common.{◌≤◌, length, ap, arith}
 use Rattle.qc_hub.proofs.Sizes.{name-length, recording-size}
 use Rattle.qc_hub.proofs.recorded.record_calls.Goals as goal
 

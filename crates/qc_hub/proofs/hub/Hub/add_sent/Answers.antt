@@ -1,11 +1,10 @@
-use Rattle.std.proofs.Common.{◌≡◌, ℕ, ◌+◌, false, length, refl, sym, ◌∙◌, ap, subst}
+use Rattle.std.proofs.Common.{ℕ, ◌+◌, false, length, refl, sym, ◌∙◌, ap, subst}
 use Rattle.qc_base.specs.declared.recording.Recording.{Recording}
 use Rattle.qc_base.specs.Messages.{after_sent}
 use Rattle.qc_site.proofs.Moments.{weaker}
-use Rattle.qc_hub.specs.State.{State, with_new_fact}
-use Rattle.qc_hub.specs.Sites.{IsSiteOf}
+use Rattle.qc_hub.specs.State.{with_new_fact}
 use Rattle.qc_journal.specs.Journal.{JournalView}
-use Rattle.qc_hub.specs.Stands.{IsHubOf, HubStands, AreNumbered}
+use Rattle.qc_hub.specs.Stands.{AreNumbered}
 use Rattle.qc_hub.proofs.Added.{Grown, grown-site, grown-hub, numbered-push, crash-either}
 use Rattle.qc_hub.proofs.hub.Hub.add_sent.Goals as goal
 

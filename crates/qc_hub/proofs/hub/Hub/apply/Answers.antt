@@ -1,4 +1,4 @@
-use Rattle.std.proofs.Common.{◌≡◌, List, ℕ, refl, sym, ap, subst, ◌∙◌, true, false, IfOk}
+use Rattle.std.proofs.Common.{List, ℕ, refl, sym, ap, subst, ◌∙◌, IfOk}
 use Rattle.qc_base.specs.declared.order.Act.{Act}
 use Rattle.qc_base.specs.declared.order.Act.TheVariants.{Queues}
 use Rattle.qc_base.specs.declared.reply.Refusal.TheVariants.{NotBuilt}

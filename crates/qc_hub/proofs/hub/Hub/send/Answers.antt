@@ -4,10 +4,9 @@ use Rattle.qc_base.specs.declared.reply.Refusal.TheVariants.{NotBuilt}
 use Rattle.qc_base.specs.declared.reply.Reply.TheVariants.{Refused}
 use Rattle.qc_site.specs.Disk.{LeavesOnly}
 use Rattle.qc_hub.specs.Recorded.{recording_of}
-use Rattle.qc_hub.specs.State.{State}
 use Rattle.qc_hub.specs.Step.{Step, step, at_moment, sent_or_full}
 use Rattle.qc_hub.specs.Stands.{StepsTo, LeavesEither}
-use Rattle.qc_hub.proofs.Steps.{step-send, send-some, send-none, send_by, recorded-fits}
+use Rattle.qc_hub.proofs.Steps.{step-send, send-some, send_by, recorded-fits}
 use Rattle.qc_hub.proofs.hub.Hub.send.Goals as goal
 
 pub send_recorded-requires-clause-limits : goal.send_recorded-requires-clause-limits

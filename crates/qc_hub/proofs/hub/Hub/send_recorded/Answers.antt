@@ -8,7 +8,7 @@ use Rattle.qc_hub.specs.State.{State, with_new_fact}
 use Rattle.qc_hub.specs.Step.{Step, at_moment}
 use Rattle.qc_hub.specs.Sites.{IsSiteOf}
 use Rattle.qc_hub.specs.Stands.{IsHubOf, StepsTo, LeavesEither}
-use Rattle.qc_hub.proofs.Sending.{Later, later-hub, later-stands, room-step, steps-by, same-fact, room-there}
+use Rattle.qc_hub.proofs.Sending.{later-hub, later-stands, room-step, steps-by, same-fact, room-there}
 use Rattle.qc_hub.proofs.hub.Hub.send_recorded.Goals as goal
 
 pub returns-then-not-has_room-clause-stands : goal.returns-then-not-has_room-clause-stands

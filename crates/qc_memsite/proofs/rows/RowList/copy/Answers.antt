@@ -1,4 +1,4 @@
-use Rattle.std.proofs.Common.{◌≡◌, ◌<◌, ◌∙◌, ◌&&◌, sym, ap, rules, List, length, cond, Some, None, [], ◌∷◌}
+use Rattle.std.proofs.Common.{◌≡◌, ◌∙◌, ◌&&◌, sym, ap, rules, List, cond, Some, None, [], ◌∷◌}
 use Rattle.std.specs.Str.{bytes_eq}
 use Rattle.qc_memsite.specs.Rows.{row_of}
 use Rattle.qc_memsite.specs.declared.row.RowAmount.{RowAmount}
