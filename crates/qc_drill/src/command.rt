@@ -64,8 +64,8 @@ fn tell_damage<O: Sink>(alloc: Global, sink: &mut O, damage: Damage) -> Status
 /// Carries out the command that the words are, and answers how it ended (docs/RULES.md, "The program").
 ///
 /// The one command is `drill`: it opens the site, reads order lines from the source to its end, and writes the reply
-/// line of each to the sink. A crash at any moment leaves the history after a front of the lines, and each message that
-/// was acknowledged (docs/RULES.md, "What a drill promises").
+/// line of each to the sink. From the opening on, a crash at any moment leaves the history after a front of the lines,
+/// with each message that was acknowledged (docs/RULES.md, "What a drill promises").
 pub fn run<S: Site, I: Source, O: Sink>(
     alloc: Global,
     words: &Vec<String>,
@@ -84,7 +84,7 @@ pub fn run<S: Site, I: Source, O: Sink>(
     // On a site that stands for a legal history: the replies and the site are those of the machine.
     ensures runs { S.told → (s : State) → ReadsAs programs_limits (S.shown site.old) s → IfSome (I.left source.old) (λ bytes. IfSome (O.contents sink.old) (λ held.
         IsRunFrom s bytes held (S.shown site.old) result (I.left source.new) (O.contents sink.new) (S.shown site.new))) }
-    // A crash at any moment leaves the history after a front of the lines, and all else as it was.
+    // From the opening on a crash leaves the history after a front of the lines, and at any moment all else as it was.
     ensures any_moment { S.told → (s : State) → ReadsAs programs_limits (S.shown site.old) s → IfSome (I.left source.old) (λ bytes. IfSome (O.contents sink.old) (λ held.
         LeavesOnly S.moment S.left_since site.old site.new (LeavesOpened (S.may_leave site.old) s (lines_of bytes)))) }
     // Each image at the end has the facts of the lines whose whole replies stand in the sink.
