@@ -5,4 +5,3 @@ pub mod LogSpellings
 pub mod Parts
 pub mod PrefixFree
 pub mod Reading
-pub mod Lines

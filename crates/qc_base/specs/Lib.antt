@@ -1,10 +1,6 @@
-pub mod History
 pub mod LogLines
 pub mod Messages
 pub mod Moments
 pub mod Names
-pub mod Refusals
 pub mod Rows
 pub mod Spelling
-pub mod Statuses
-pub mod Texts

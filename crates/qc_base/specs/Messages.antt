@@ -7,7 +7,7 @@ use Rattle.qc_base.specs.declared.recording.Recording.{Recording}
 use Rattle.qc_base.specs.declared.message.Message.{Message}
 use Rattle.qc_base.specs.declared.fact.Place.{Place}
 use Rattle.qc_base.specs.declared.fact.Place.TheVariants.{Queue, Dead, Consumed}
-use Rattle.qc_base.specs.declared.reply.Waiting.{Waiting}
+use Rattle.qc_base.specs.declared.queue.Waiting.{Waiting}
 
 -- retries
 
@@ -84,3 +84,11 @@ consumed_ids app messages = map (λ (m : Message). m.id) (filter (λ (m : Messag
 -- messages that aren't consumed
 abbrev pub live : List Message → ℕ
 live messages = count_by (λ (m : Message). not (is_consumed m.place)) messages
+
+-- an application's queues 0 to 5, in order
+abbrev pub waiting_queues : List ℕ → List Message → List (List Waiting)
+waiting_queues app messages = map (λ q. listing app q messages) (0 ∷ 1 ∷ 2 ∷ 3 ∷ 4 ∷ 5 ∷ [])
+
+-- the ids in its dead queue
+abbrev pub dead_ids : List ℕ → List Message → List ℕ
+dead_ids app messages = map (λ (w : Waiting). w.id) (listing app 6 messages)

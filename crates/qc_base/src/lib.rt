@@ -1,5 +1,14 @@
-//! The types that all crates share: names, amounts, recordings, facts, log lines, orders and replies,
-//! and the definitions over them that contracts cite.
+//! The data that all crates share, and the definitions over it that contracts cite.
+//!
+//! - Words: `name` (names and texts), `number` (amounts and moments), `lists`.
+//! - What is kept: `recording` (what a client asked for), `fact` (what happened to its message), `log_line` (what was
+//!   changed outside), `message` (a message and where it stands), `queue` (messages as they are
+//!   listed).
+//! - Their bytes: `reader` and `writer` (numbers, names), `recording_reader`, `recording_writer` and `size`; the
+//!   spelling of a recording is both ways here, that of a fact in `qc_journal`.
+//! - `laws`: what holds of all spellings.
+//!
+//! Orders and replies are in `qc_protocol`.
 #![tactic(auto)]
 
 mod fact;
@@ -9,14 +18,12 @@ mod log_line;
 mod message;
 mod name;
 mod number;
-mod order;
+mod queue;
 mod reader;
 mod recording;
 mod recording_reader;
 mod recording_writer;
-mod reply;
 mod size;
-mod status;
 #[cfg(test)]
 mod tests;
 mod writer;
@@ -28,11 +35,9 @@ pub use log_line::{Heard, LogLine, LogRecord, Notice, Notices, Recovered, Stage,
 pub use message::Message;
 pub use name::{Name, Text, is_app_name, is_name, is_text};
 pub use number::{Amount, Moment, NoMemory};
-pub use order::{Act, Member, Order, RawArg, RawArgs, RawCall, RawCalls};
+pub use queue::{Queue, Queues, Waiting};
 pub use reader::Reader;
 pub use recording::{Arg, Args, Call, Calls, Recording, Row, Space};
 pub use recording_reader::read_recording;
 pub use recording_writer::{put_recording, write_recording};
-pub use reply::{Queue, Queues, Refusal, Reply, ShownRow, ShownRows, Side, Waiting};
-pub use status::Status;
 pub use writer::{put_bytes, put_name, put_text, put_u16, put_u32, put_u64};

@@ -147,7 +147,7 @@ impl Calls {
     pub fn copy(&self, alloc: Global) -> Result<Calls, NoMemory>
         ensures { IfOk result (λ a. a ≡ self.now) }
     {
-        let mut items = Vec::new(alloc);
+        let mut items = Vec::with_capacity(alloc, self.0.len()).map_err(|_| NoMemory)?;
         for call in self.0.iter() {
             let copied = call.copy(alloc)?;
             items.push(copied).map_err(|_| NoMemory)?;

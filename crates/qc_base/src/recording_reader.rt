@@ -52,7 +52,7 @@ fn read_calls(alloc: Global, reader: &mut Reader<'_>) -> Result<Option<Calls>, N
     if count < 1 || 64 < count {
         return Ok(None);
     }
-    let mut calls = Vec::new(alloc);
+    let mut calls = Vec::with_capacity(alloc, usize::from(count)).map_err(|_| NoMemory)?;
     for _ in 0..count {
         let Some(call) = read_call(alloc, reader)? else {
             return Ok(None);
@@ -83,7 +83,7 @@ fn read_args(alloc: Global, reader: &mut Reader<'_>) -> Result<Option<Args>, NoM
     if 16 < count {
         return Ok(None);
     }
-    let mut args = Vec::new(alloc);
+    let mut args = Vec::with_capacity(alloc, usize::from(count)).map_err(|_| NoMemory)?;
     for _ in 0..count {
         let Some(arg) = read_arg(reader) else {
             return Ok(None);

@@ -1,6 +1,12 @@
-pub mod Pieces
-pub mod Growing
+pub mod Behind
+pub mod Lines
+pub mod Joined
+pub mod Orders
+pub mod Causes
+pub mod Turns
 pub mod Reading
-mod Telling
-mod Crashes
-mod Orders
+pub mod Openings
+pub mod Ends
+pub mod Sampled
+pub mod Making
+pub mod Beginnings

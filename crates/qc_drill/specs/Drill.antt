@@ -1,24 +1,37 @@
 -- The replies to lines.
-use Rattle.std.specs.Prelude.{ℕ, nat_le, List, [], ◌∷◌, ◌++◌, length, true, false, if◌then◌else◌}
-use Rattle.qc_base.specs.declared.reply.Refusal.TheVariants.{LineTooLong, NotBuilt}
-use Rattle.qc_base.specs.declared.reply.Reply.TheVariants.{Refused}
-use Rattle.qc_base.specs.Texts.{reply_text, is_blank}
-use Rattle.qc_orders.specs.Orders.{Asked, asks, not_read, order_of}
-use Rattle.qc_hub.specs.State.{State}
-use Rattle.qc_hub.specs.Step.{Step, step}
+use Rattle.std.specs.Prelude.{ℕ, nat_le, List, [], ◌∷◌, ◌++◌, length, true, false, Result, Ok, Err, if◌then◌else◌}
+use Rattle.qc_protocol.specs.declared.order.Member.{Member}
+use Rattle.qc_protocol.specs.declared.order.Order.{Order}
+use Rattle.qc_protocol.specs.declared.reply.Refusal.{Refusal}
+use Rattle.qc_protocol.specs.declared.reply.Refusal.TheVariants.{LineTooLong, Malformed}
+use Rattle.qc_protocol.specs.declared.reply.Reply.TheVariants.{Refused}
+use Rattle.qc_protocol.specs.Texts.{reply_text, is_blank}
+use Rattle.qc_orders.specs.Orders.{order_of}
+use Rattle.qc_machine.specs.State.{State}
+use Rattle.qc_machine.specs.Step.{step}
+use Rattle.qc_machine.specs.Steps.{Step, stays}
 
-abbrev pub asked_step : State → Asked → Step
-asked_step s (asks order) = step s order
-asked_step s not_read = record { state = s; reply = Refused NotBuilt }
+-- what a line that isn't blank asks for, or why it is refused as a line
+
+abbrev pub read_as : Result Order Member → Result Order Refusal
+read_as (Ok order) = Ok order
+read_as (Err member) = Err (Malformed member)
+
+abbrev pub asked : List ℕ → Result Order Refusal
+asked line = if nat_le (length line) 65536 then read_as (order_of line) else Err LineTooLong
+
+abbrev pub asked_step : State → Result Order Refusal → Step
+asked_step s (Ok order) = step s order
+asked_step s (Err refusal) = stays s (Refused refusal)
 
 -- the moment of the order that is asked for
-abbrev pub asked_at : Asked → ℕ
-asked_at (asks order) = order.at
-asked_at not_read = 0
+abbrev pub asked_at : Result Order Refusal → ℕ
+asked_at (Ok order) = order.at
+asked_at (Err refusal) = 0
 
 -- the step of a line that isn't blank
 abbrev pub line_step : State → List ℕ → Step
-line_step s line = if nat_le (length line) 65536 then asked_step s (order_of line) else record { state = s; reply = Refused LineTooLong }
+line_step s line = asked_step s (asked line)
 
 -- a reply goes out with its newline
 abbrev pub with_newline : List ℕ → List ℕ
@@ -41,3 +54,7 @@ out_of_lines s (line ∷ lines) = out_of_line s line ++ out_of_lines (after_line
 abbrev pub after_lines : State → List (List ℕ) → State
 after_lines s [] = s
 after_lines s (line ∷ lines) = after_lines (after_line s line) lines
+
+-- what an opening says that left this state: nothing yet
+abbrev pub opened_out : State → List ℕ
+opened_out s = []

@@ -1,9 +1,13 @@
+pub mod Calls
 pub mod Crash
 pub mod Drill
+pub mod Fronts
 pub mod Headline
 pub mod Holds
 pub mod Progress
+pub mod Reads
 pub mod Stops
 pub mod Unopened
 pub mod Words
 pub mod Worked
+pub mod Inits

@@ -1,45 +1,51 @@
--- What a run writes where the site stands for no legal history.
-use Rattle.std.specs.Prelude.{◌≡◌, ◌≢◌, ℕ, List, [], ◌∷◌, ◌++◌, take, codes, decimal, Option, Some}
-use Rattle.qc_base.specs.declared.status.Status.{Status}
-use Rattle.qc_base.specs.declared.status.Status.TheVariants.{Damaged, SinkFault, SiteFault}
+-- What a drill writes and leaves where the site stands for no legal history.
+use Rattle.std.specs.Prelude.{◌≡◌, ℕ, List, [], ◌∷◌, ◌++◌, take, codes, decimal, Option, Some}
+use Rattle.qc_protocol.specs.declared.status.Status.{Status}
+use Rattle.qc_protocol.specs.declared.status.Status.TheVariants.{NotMade, NoCatalogue, Damaged, SinkFault, SiteFault, NoMemory}
 use Rattle.qc_site.specs.Files.{file_name}
 use Rattle.qc_site.specs.Image.{Image}
-use Rattle.qc_site.specs.declared.site.SiteFile.TheVariants.{Journal}
-use Rattle.qc_hub.specs.declared.error.Damage.{Damage}
-use Rattle.qc_hub.specs.Opening.{DamagedAt}
-use Rattle.qc_drill.specs.Headline.{IsFrontOf}
+use Rattle.qc_frame.specs.Frame.{groups}
+use Rattle.qc_frame.specs.declared.error.Damage.{Damage}
+use Rattle.qc_machine.specs.declared.error.OpenError.TheVariants.{NotMade as not_made, NoCatalogue as no_catalogue, NoMemory as no_memory}
+use Rattle.qc_machine.specs.Opening.{DamagedAt}
+use Rattle.qc_machine.specs.Sites.{HasHeaders}
+use Rattle.qc_hub.specs.Calls.{LeavesDamaged, LeavesUnopened}
+use Rattle.qc_drill.specs.Fronts.{IsFrontOf}
 
 -- the line on damage, with its newline
 abbrev pub damage_line : Damage → List ℕ
 damage_line d = codes "damaged " ++ file_name d.file ++ codes " at " ++ decimal d.at ++ 10 ∷ []
 
--- the line names the first entry of the journal that doesn't fit
-pub record TellsDamage (image : Image) (line : List ℕ) : Type 0 where
-  pub at : ℕ
-  pub place : DamagedAt image.journal at
-  pub is : line ≡ damage_line (record { file = Journal; at = at })
+-- The line names the first entry that doesn't fit, and the site is left as an opening leaves it that found this.
+pub record TellsDamage (before : Image) (line : List ℕ) (now : Image) : Type 0 where
+  pub damage : Damage
+  pub headers : HasHeaders before
+  pub place : DamagedAt before damage
+  pub is : line ≡ damage_line damage
+  pub leaves : LeavesDamaged damage.file before now
 
-pub record TellsPart (image : Image) (text : List ℕ) : Type 0 where
+-- a front of this line
+pub record TellsPart (before : Image) (text : List ℕ) (now : Image) : Type 0 where
   pub line : List ℕ
-  pub tells : TellsDamage image line
+  pub tells : TellsDamage before line now
   pub front : IsFrontOf line text
 
--- the text that was written, by the status
-abbrev pub WritesDamage : Image → List ℕ → Status → Type 0
-WritesDamage image text Damaged = TellsDamage image text
-WritesDamage image text SinkFault = TellsPart image text
-WritesDamage image text _ = text ≡ []
+-- a journal with its header and no group, and a log with its header
+pub record HasNoGroup (image : Image) : Type 0 where
+  pub headers : HasHeaders image
+  pub none : groups image.journal ≡ []
 
--- A run on such a site, behind what the sink held before: the source is left as it was, and the site too where it
--- didn't fail.
-pub record IsRunUnopened (bytes held : List ℕ) (before : Image) (status : Status) (left contents : Option (List ℕ)) (now : Image) : Type 0 where
-  pub text : List ℕ
-  pub remains : left ≡ Some bytes
-  pub sink : contents ≡ Some (held ++ text)
-  pub writes : WritesDamage before text status
-  pub site : status ≢ SiteFault → now ≡ before
+-- The text that was written and the site, by the status. No other status comes.
+abbrev pub LeavesUnread : Image → List ℕ → Status → Image → Type 0
+LeavesUnread before text NotMade now = (¬ HasHeaders before) × ((text ≡ []) × LeavesUnopened not_made before now)
+LeavesUnread before text NoCatalogue now = HasNoGroup before × ((text ≡ []) × LeavesUnopened no_catalogue before now)
+LeavesUnread before text Damaged now = TellsDamage before text now
+LeavesUnread before text SinkFault now = TellsPart before text now
+LeavesUnread before text SiteFault now = text ≡ []
+LeavesUnread before text NoMemory now = (text ≡ []) × LeavesUnopened no_memory before now
+LeavesUnread before text _ now = ⊥
 
--- what the sink holds after the line on damage, by the status
+-- what the sink holds after the line on damage, behind what it held, by the status
 abbrev pub HoldsLine : List ℕ → List ℕ → Status → Option (List ℕ) → Type 0
 HoldsLine held line Damaged contents = contents ≡ Some (held ++ line)
 HoldsLine held line SinkFault contents = (n : ℕ) × (contents ≡ Some (held ++ take n line))

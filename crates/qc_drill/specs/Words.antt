@@ -1,20 +1,19 @@
--- The words of the program, and how its commands may end.
-use Rattle.std.specs.Prelude.{ℕ, List, [], ◌∷◌, Bool, true, false, codes}
+-- The words of the program.
+use Rattle.std.specs.Prelude.{ℕ, List, [], ◌∷◌, map, Bool, false, codes, String}
+use Rattle.std.specs.declared.alloc.Global.{Global}
+use Rattle.std.specs.String.{string_bytes}
 use Rattle.std.specs.Str.{bytes_eq}
-use Rattle.qc_base.specs.declared.status.Status.{Status}
-use Rattle.qc_base.specs.declared.status.Status.TheVariants.{NoCatalogue, AlreadyMade, BadCatalogue, DoorFault, SpawnFault}
 
--- the one word drill
-abbrev pub is_drill : List (List ℕ) → Bool
-is_drill [] = false
-is_drill (word ∷ []) = bytes_eq word (codes "drill")
-is_drill (word ∷ next ∷ words) = false
+-- the words are this one word
+abbrev pub is_word : List ℕ → List (List ℕ) → Bool
+is_word name [] = false
+is_word name (word ∷ []) = bytes_eq word name
+is_word name (word ∷ next ∷ words) = false
 
--- the statuses of the commands that are built
-abbrev pub is_of_run : Status → Bool
-is_of_run NoCatalogue = false
-is_of_run AlreadyMade = false
-is_of_run BadCatalogue = false
-is_of_run DoorFault = false
-is_of_run SpawnFault = false
-is_of_run _ = true
+-- the words of a command line
+
+abbrev pub is_drill : List (String Global) → Bool
+is_drill words = is_word (codes "drill") (map (λ (w : String Global). string_bytes w) words)
+
+abbrev pub is_init : List (String Global) → Bool
+is_init words = is_word (codes "init") (map (λ (w : String Global). string_bytes w) words)

@@ -1,21 +1,39 @@
 -- Worked lines, and the bytes that have to come of them.
 use Rattle.std.specs.Prelude.{ℕ, List, [], ◌∷◌, ◌++◌, take, drop, codes}
-use Rattle.qc_base.specs.declared.order.Order.{Order}
-use Rattle.qc_base.specs.declared.order.Act.TheVariants.{Send, Queues}
-use Rattle.qc_base.specs.declared.order.RawArg.TheVariants.{Text, Whole}
-use Rattle.qc_base.specs.History.{no_facts}
-use Rattle.qc_hub.specs.declared.limits.Limits.{Limits}
-use Rattle.qc_hub.specs.State.{State}
-use Rattle.qc_hub.specs.Sites.{as_read}
+use Rattle.qc_base.specs.declared.fact.Fact.{Fact}
+use Rattle.qc_base.specs.declared.fact.Fact.TheVariants.{Catalogue as InForce}
+use Rattle.qc_catalogue.specs.Sample.{sample}
+use Rattle.qc_frame.specs.Frame.{group}
+use Rattle.qc_journal.specs.History.{fact_payload, journal_header}
+use Rattle.qc_machine.specs.declared.limits.Limits.{Limits}
+use Rattle.qc_machine.specs.History.{by_text, history_of}
+use Rattle.qc_machine.specs.Sites.{as_read, log_header}
+use Rattle.qc_machine.specs.State.{State, FileEnd}
+use Rattle.qc_protocol.specs.declared.order.Act.TheVariants.{Send, Queues}
+use Rattle.qc_protocol.specs.declared.order.Order.{Order}
+use Rattle.qc_protocol.specs.declared.order.RawArg.TheVariants.{Text, Whole}
 use Rattle.qc_drill.specs.Headline.{programs_limits}
 
--- a journal that was just made, and the state that it is read as, under the programs' limits or with another on its bytes
+-- A site that was just made: its one fact is the sample catalogue. The journal up to its end gate, and whole; the log
+-- of compensations; and the state that the site is read as, under the programs' limits or with another on its bytes.
+
+abbrev pub made_facts : List Fact
+made_facts = InForce sample ∷ []
+
+abbrev pub before_gate : List ℕ
+before_gate = journal_header ++ group (fact_payload (InForce sample))
 
 abbrev pub made_journal : List ℕ
-made_journal = 0x51 ∷ 0x43 ∷ 0x2d ∷ 0x4a ∷ 0x4f ∷ 0x55 ∷ 0x52 ∷ 0x4e ∷ 0x41 ∷ 0x4c ∷ 0x2d ∷ 0x30 ∷ 0x30 ∷ 0x30 ∷ 0x31 ∷ 0x0a ∷ 0x00 ∷ []
+made_journal = before_gate ++ 0x00 ∷ []
+
+abbrev pub made_log : List ℕ
+made_log = log_header ++ 0x00 ∷ []
+
+abbrev pub made_end : FileEnd
+made_end = record { gate = 16; size = 17 }
 
 abbrev pub made_under : Limits → State
-made_under limits = as_read limits no_facts (record { gate = 16; size = 17 })
+made_under limits = as_read limits (history_of by_text made_facts) (record { gate = 1672; size = 1673 }) made_end
 
 abbrev pub just_made : State
 just_made = made_under programs_limits
@@ -55,21 +73,19 @@ sent_group =
     ∷ 0x00 ∷ 0x00 ∷ 0x00 ∷ 0x00 ∷ 0x00 ∷ 0x00 ∷ 0x04 ∷ []
 
 abbrev pub sent_journal : List ℕ
-sent_journal =
-    0x51 ∷ 0x43 ∷ 0x2d ∷ 0x4a ∷ 0x4f ∷ 0x55 ∷ 0x52 ∷ 0x4e ∷ 0x41 ∷ 0x4c ∷ 0x2d ∷ 0x30 ∷ 0x30 ∷ 0x30 ∷ 0x31 ∷ 0x0a
-    ∷ 0x01 ∷ 0x00 ∷ 0x00 ∷ 0x00 ∷ 0x3b ∷ 0x00 ∷ 0x00 ∷ 0x00 ∷ 0x37 ∷ 0x02 ∷ 0x00 ∷ 0x00 ∷ 0x00 ∷ 0x00 ∷ 0x00 ∷ 0x00
-    ∷ 0x00 ∷ 0x01 ∷ 0x00 ∷ 0x00 ∷ 0x00 ∷ 0x00 ∷ 0x00 ∷ 0x00 ∷ 0x00 ∷ 0x00 ∷ 0x00 ∷ 0x24 ∷ 0x06 ∷ 0x4f ∷ 0x72 ∷ 0x64
-    ∷ 0x65 ∷ 0x72 ∷ 0x73 ∷ 0x05 ∷ 0x4f ∷ 0x72 ∷ 0x64 ∷ 0x65 ∷ 0x72 ∷ 0x01 ∷ 0x05 ∷ 0x50 ∷ 0x6c ∷ 0x61 ∷ 0x63 ∷ 0x65
-    ∷ 0x02 ∷ 0x01 ∷ 0x04 ∷ 0x62 ∷ 0x6f ∷ 0x6c ∷ 0x74 ∷ 0x02 ∷ 0x00 ∷ 0x00 ∷ 0x00 ∷ 0x00 ∷ 0x00 ∷ 0x00 ∷ 0x00 ∷ 0x04
-    ∷ 0x00 ∷ []
+sent_journal = before_gate ++ sent_group ++ 0x00 ∷ []
 
--- the journal with the tag of its fact set to 0
+-- the journal without its last byte, which is the gate behind the group
+abbrev pub cut_journal : List ℕ
+cut_journal = before_gate ++ sent_group
+
+-- the journal with the tag of its second fact set to 0
 abbrev pub untagged_journal : List ℕ
-untagged_journal = take 25 sent_journal ++ 0 ∷ drop 26 sent_journal
+untagged_journal = before_gate ++ take 9 sent_group ++ 0x00 ∷ drop 10 sent_group ++ 0x00 ∷ []
 
 -- the replies where the journal has no room for the send
 abbrev pub full_and_listed : List ℕ
-full_and_listed = codes "refused 21 Full 17\nqueues Orders; Orders_0; Orders_1; Orders_2; Orders_3; Orders_4; Orders_DeadQueue; consumed 0\n"
+full_and_listed = codes "refused 21 Full 1673\nqueues Orders; Orders_0; Orders_1; Orders_2; Orders_3; Orders_4; Orders_DeadQueue; consumed 0\n"
 
 -- a send, a blank line, a send at an earlier moment, a line that is no order, and a listing that no newline ends
 
@@ -77,4 +93,4 @@ abbrev pub two_sends_and_queues : List ℕ
 two_sends_and_queues = codes "{\"at\":5,\"do\":\"send\",\"app\":\"Orders\",\"component\":\"Order\",\"calls\":[[\"Place\",\"bolt\",4]]}\n\n{\"at\":3,\"do\":\"send\",\"app\":\"Orders\",\"component\":\"Order\",\"calls\":[[\"Place\",\"bolt\",4]]}\n{}\n{\"at\":0,\"do\":\"queues\",\"app\":\"Orders\"}"
 
 abbrev pub two_sent_and_listed : List ℕ
-two_sent_and_listed = codes "sent 1\nsent 2\nrefused 3 NotBuilt\nqueues Orders 1/0/5, 2/0/5; Orders_0; Orders_1; Orders_2; Orders_3; Orders_4; Orders_DeadQueue; consumed 0\n"
+two_sent_and_listed = codes "sent 1\nsent 2\nrefused 2 Malformed at\nqueues Orders 1/0/5, 2/0/5; Orders_0; Orders_1; Orders_2; Orders_3; Orders_4; Orders_DeadQueue; consumed 0\n"

@@ -1,20 +1,14 @@
 // A source read to its end, and the replies to its lines.
-ghost use Rattle.std.specs.Prelude.{◌≡◌, ◌≤◌, ℕ, List, Some, false, IfOk, IfErr, OnOk, OnErr, IsErrOf};
-ghost use Rattle.qc_base.specs.Texts.{lines_of};
-ghost use Rattle.qc_site.specs.Image.{Image};
-ghost use Rattle.qc_site.specs.Disk.{LeavesOnly};
+ghost use Rattle.std.specs.Prelude.{◌≡◌, ◌≤◌, [], ◌∷◌, ℕ, List, IfOk, IsOk, IsErrOf};
+ghost use Rattle.qc_protocol.specs.Texts.{unended_line};
 ghost use Rattle.qc_site.specs.Causes.{HasCause};
-ghost use Rattle.qc_hub.specs.State.{State};
-ghost use Rattle.qc_hub.specs.Stands.{IsHubOf, HubStands};
-ghost use Rattle.qc_drill.specs.Crash.{LeavesFront, IsAnswered};
-ghost use Rattle.qc_drill.specs.Headline.{IsRunFrom, LeavesSite};
-ghost use Rattle.qc_drill.specs.Progress.{Answered, Stopped, Taken, Going, Goes};
-ghost use Rattle.qc_drill.specs.Stops.{status_of, ended_as};
+ghost use Rattle.qc_hub.specs.Calls.{IsReady};
+ghost use Rattle.qc_drill.specs.Calls.{AnswersLines, LeavesDrill, ReadsSome, ReadsAll};
+ghost use Rattle.qc_drill.specs.Holds.{Holds};
 
 use crate::piece::Piece;
 use crate::stop::Stop;
-use crate::turn::{answer_piece, take_bytes};
-use qc_base::Status;
+use crate::turn::Drill;
 use qc_hub::Hub;
 use qc_site::{Sink, Site, Source};
 use std::alloc::Global;
@@ -24,103 +18,105 @@ const MOST_INPUT: u64 = 4_294_967_296;
 
 const CHUNK: usize = 4096;
 
-// One read of the source, and the lines that end in what it gave: how many bytes it gave, 0 at the end.
-fn take_some<S: Site, I: Source, O: Sink>(
-    alloc: Global,
-    hub: &mut Hub,
-    site: &mut S,
-    source: &mut I,
-    sink: &mut O,
-    piece: &mut Piece,
-    more: u64,
-) -> Result<u64, Stop>
-    requires stands { HubStands S.told (S.shown site.old) (S.may_leave site.old) hub.old }
-    requires no_fault { hub.old.in_fault ≡ false }
-    ensures goes { S.told → (s : State) (bytes held : List ℕ) (before : Image) (taken : List ℕ) → Going s bytes held before taken more hub.old piece.old (I.left source.old) (S.shown site.old) (O.contents sink.old)
-        → IfOk result (λ n. Goes s bytes held before taken more n hub.new piece.new (I.left source.new) (S.shown site.new) (O.contents sink.new)) }
-    ensures stopped { S.told → (s : State) (bytes held : List ℕ) (before : Image) (taken : List ℕ) → Going s bytes held before taken more hub.old piece.old (I.left source.old) (S.shown site.old) (O.contents sink.old)
-        → IfErr result (λ stop. IsRunFrom s bytes held before (status_of stop) (I.left source.new) (O.contents sink.new) (S.shown site.new)) }
-    ensures answered { S.told → (s : State) (bytes held : List ℕ) (before : Image) (taken : List ℕ) → Going s bytes held before taken more hub.old piece.old (I.left source.old) (S.shown site.old) (O.contents sink.old)
-        → OnErr result (IsAnswered s bytes held (O.contents sink.new) (S.may_leave site.new)) }
-    ensures any_moment { S.told → (s : State) (bytes held : List ℕ) (before : Image) (taken : List ℕ) → Going s bytes held before taken more hub.old piece.old (I.left source.old) (S.shown site.old) (O.contents sink.old)
-        → LeavesOnly S.moment S.left_since site.old site.new (LeavesFront (S.may_leave site.old) s (lines_of bytes)) }
-    ensures count { IfOk result (λ n. n ≤ more) }
-    ensures stands { OnOk result (HubStands S.told (S.shown site.new) (S.may_leave site.new) hub.new) }
-    ensures no_fault { OnOk result (hub.new.in_fault ≡ false) }
-    ensures site_cause { HasCause (S.faults site.old) (S.faults site.new) (IsErrOf result Stop.SiteFault) }
-    ensures source_cause { HasCause (I.faults source.old) (I.faults source.new) (IsErrOf result Stop.SourceFault) }
-    ensures sink_cause { HasCause (O.faults sink.old) (O.faults sink.new) (IsErrOf result Stop.SinkFault) }
-{
-    let mut chunk = [0u8; CHUNK];
-    let Ok(count) = source.read(&mut chunk) else {
-        return Err(Stop::SourceFault);
-    };
-    if count as u64 > more {
-        return match take_bytes(alloc, hub, site, sink, piece, &chunk[..more as usize]) {
-            Ok(()) => Err(Stop::InputLong),
-            Err(stop) => Err(stop),
+impl Drill {
+    // One read of the source, and the lines that end in what it gave: how many bytes it gave, 0 at the end.
+    fn take_some<S: Site, I: Source, O: Sink>(
+        &mut self,
+        alloc: Global,
+        site: &mut S,
+        source: &mut I,
+        sink: &mut O,
+        more: u64,
+    ) -> Result<u64, Stop>
+        requires { IsReady S.Site self.old.hub site.old }
+        ensures reads { (line : List ℕ) → Holds self.old.piece line
+            → ReadsSome S.Site line more result self.old.hub site.old (I.left source.old) (O.contents sink.old)
+            self.new.hub self.new.piece site.new (I.left source.new) (O.contents sink.new) }
+        ensures count { IfOk result (λ n. n ≤ more) }
+        ensures leaves { LeavesDrill S.Site result self.old.hub site.old (O.faults sink.old) self.new.hub site.new
+            (O.faults sink.new) }
+        ensures source_cause { HasCause (I.faults source.old) (I.faults source.new) (IsErrOf result Stop.SourceFault) }
+    {
+        let mut chunk = [0u8; CHUNK];
+        let Ok(count) = source.read(&mut chunk) else {
+            return Err(Stop::SourceFault);
         };
-    }
-    match take_bytes(alloc, hub, site, sink, piece, &chunk[..count]) {
-        Ok(()) => Ok(count as u64),
-        Err(stop) => Err(stop),
-    }
-}
-
-// The last line, where no newline ends it.
-fn finish<S: Site, O: Sink>(
-    alloc: Global,
-    hub: &mut Hub,
-    site: &mut S,
-    sink: &mut O,
-    piece: &Piece,
-) -> Result<(), Stop>
-    requires stands { HubStands S.told (S.shown site.old) (S.may_leave site.old) hub.old }
-    requires no_fault { hub.old.in_fault ≡ false }
-    ensures done { S.told → (s : State) (held : List ℕ) (before : Image) (taken : List ℕ) → Taken s held before taken hub.old piece.now (S.shown site.old) (O.contents sink.old)
-        → OnOk result (Answered s held before (lines_of taken) hub.new (S.shown site.new) (O.contents sink.new)) }
-    ensures stopped { S.told → (s : State) (held : List ℕ) (before : Image) (taken : List ℕ) → Taken s held before taken hub.old piece.now (S.shown site.old) (O.contents sink.old)
-        → OnErr result (Stopped s held (lines_of taken) (O.contents sink.new) (S.may_leave site.new)) }
-    ensures stands { OnOk result (HubStands S.told (S.shown site.new) (S.may_leave site.new) hub.new) }
-    ensures any_moment { S.told → (s : State) (held : List ℕ) (before : Image) (taken : List ℕ) → Taken s held before taken hub.old piece.now (S.shown site.old) (O.contents sink.old)
-        → LeavesOnly S.moment S.left_since site.old site.new (LeavesFront (S.may_leave site.old) s (lines_of taken)) }
-    ensures few_kinds { (¬ IsErrOf result Stop.SourceFault) × (¬ IsErrOf result Stop.InputLong) }
-    ensures site_cause { HasCause (S.faults site.old) (S.faults site.new) (IsErrOf result Stop.SiteFault) }
-    ensures sink_cause { HasCause (O.faults sink.old) (O.faults sink.new) (IsErrOf result Stop.SinkFault) }
-{
-    if piece.is_empty() {
-        return Ok(());
-    }
-    answer_piece(alloc, hub, site, sink, piece)
-}
-
-/// Reads order lines to the source's end, and writes a reply line for each.
-pub(crate) fn answer_all<S: Site, I: Source, O: Sink>(
-    alloc: Global,
-    hub: &mut Hub,
-    site: &mut S,
-    source: &mut I,
-    sink: &mut O,
-) -> Result<(), Stop>
-    requires stands { HubStands S.told (S.shown site.old) (S.may_leave site.old) hub.old }
-    requires no_fault { hub.old.in_fault ≡ false }
-    ensures runs { S.told → (s : State) (bytes held : List ℕ) (before : Image) → IsHubOf hub.old s → LeavesSite before (S.shown site.old) s → I.left source.old ≡ Some bytes → O.contents sink.old ≡ Some held
-        → IsRunFrom s bytes held before (ended_as result) (I.left source.new) (O.contents sink.new) (S.shown site.new) }
-    ensures answered { S.told → (s : State) (bytes held : List ℕ) (before : Image) → IsHubOf hub.old s → LeavesSite before (S.shown site.old) s → I.left source.old ≡ Some bytes → O.contents sink.old ≡ Some held
-        → IsAnswered s bytes held (O.contents sink.new) (S.may_leave site.new) }
-    ensures any_moment { S.told → (s : State) (bytes held : List ℕ) (before : Image) → IsHubOf hub.old s → LeavesSite before (S.shown site.old) s → I.left source.old ≡ Some bytes → O.contents sink.old ≡ Some held
-        → LeavesOnly S.moment S.left_since site.old site.new (LeavesFront (S.may_leave site.old) s (lines_of bytes)) }
-    ensures site_cause { HasCause (S.faults site.old) (S.faults site.new) (IsErrOf result Stop.SiteFault) }
-    ensures source_cause { HasCause (I.faults source.old) (I.faults source.new) (IsErrOf result Stop.SourceFault) }
-    ensures sink_cause { HasCause (O.faults sink.old) (O.faults sink.new) (IsErrOf result Stop.SinkFault) }
-{
-    let mut piece = Piece::start(alloc);
-    let mut more = MOST_INPUT;
-    loop {
-        match take_some(alloc, hub, site, source, sink, &mut piece, more) {
-            Ok(0) => return finish(alloc, hub, site, sink, &piece),
-            Ok(count) => more -= count,
-            Err(stop) => return Err(stop),
+        if count as u64 > more {
+            return match self.take_bytes(alloc, site, sink, &chunk[..more as usize]) {
+                Ok(()) => Err(Stop::InputLong),
+                Err(stop) => Err(stop),
+            };
+        }
+        match self.take_bytes(alloc, site, sink, &chunk[..count]) {
+            Ok(()) => Ok(count as u64),
+            Err(stop) => Err(stop),
         }
     }
+
+    // The last line, where no newline ends it.
+    fn finish<S: Site, O: Sink>(
+        &mut self,
+        alloc: Global,
+        site: &mut S,
+        sink: &mut O,
+    ) -> Result<(), Stop>
+        requires { IsReady S.Site self.old.hub site.old }
+        ensures answers { (line : List ℕ) → Holds self.old.piece line
+            → AnswersLines S.Site (unended_line line) (IsOk result) self.old.hub site.old (O.contents sink.old)
+            self.new.hub site.new (O.contents sink.new) }
+        ensures few_kinds { (¬ IsErrOf result Stop.SourceFault) × (¬ IsErrOf result Stop.InputLong) }
+        ensures leaves { LeavesDrill S.Site result self.old.hub site.old (O.faults sink.old) self.new.hub site.new
+            (O.faults sink.new) }
+    {
+        if self.piece.is_empty() {
+            return Ok(());
+        }
+        self.end_line(alloc, site, sink)
+    }
+
+    // Reads order lines to the source's end, and writes a reply line for each.
+    fn answer_all<S: Site, I: Source, O: Sink>(
+        &mut self,
+        alloc: Global,
+        site: &mut S,
+        source: &mut I,
+        sink: &mut O,
+    ) -> Result<(), Stop>
+        requires ready { IsReady S.Site self.old.hub site.old }
+        requires start { Holds self.old.piece [] }
+        ensures reads { ReadsAll S.Site result self.old.hub site.old (I.left source.old) (O.contents sink.old)
+            self.new.hub site.new (I.left source.new) (O.contents sink.new) }
+        ensures leaves { LeavesDrill S.Site result self.old.hub site.old (O.faults sink.old) self.new.hub site.new
+            (O.faults sink.new) }
+        ensures source_cause { HasCause (I.faults source.old) (I.faults source.new) (IsErrOf result Stop.SourceFault) }
+    {
+        let mut more = MOST_INPUT;
+        loop {
+            match self.take_some(alloc, site, source, sink, more) {
+                Ok(0) => return self.finish(alloc, site, sink),
+                Ok(count) => more -= count,
+                Err(stop) => return Err(stop),
+            }
+        }
+    }
+}
+
+/// Answers the lines of a source by a hub.
+pub(crate) fn answer_lines<S: Site, I: Source, O: Sink>(
+    alloc: Global,
+    hub: Hub,
+    site: &mut S,
+    source: &mut I,
+    sink: &mut O,
+) -> Result<(), Stop>
+    requires { IsReady S.Site hub site.old }
+    ensures reads { (new : Hub) × ReadsAll S.Site result hub site.old (I.left source.old) (O.contents sink.old) new
+        site.new (I.left source.new) (O.contents sink.new) }
+    ensures site_cause { HasCause (S.faults site.old) (S.faults site.new) (IsErrOf result Stop.SiteFault) }
+    ensures source_cause { HasCause (I.faults source.old) (I.faults source.new) (IsErrOf result Stop.SourceFault) }
+    ensures sink_cause { HasCause (O.faults sink.old) (O.faults sink.new) (IsErrOf result Stop.SinkFault) }
+{
+    let piece = Piece::start(alloc);
+    let mut drill = Drill { hub, piece };
+    drill.answer_all(alloc, site, source, sink)
 }

@@ -1,12 +1,13 @@
 // The line that is being read.
-ghost use Rattle.std.specs.Prelude.{◌≡◌, ◌==◌, ◌&&◌, ◌||◌, ℕ, List, [], ◌∷◌, ◌++◌, IfOk};
+ghost use Rattle.std.specs.Prelude.{◌≡◌, ℕ, List, [], ◌++◌, IfOk};
 ghost use Rattle.qc_drill.specs.Holds.{Holds, is_empty};
 
 use qc_base::NoMemory;
+use qc_orders::is_blank;
 use std::alloc::Global;
 
 /// A longer line is refused, and not kept (docs/FORMATS.md, "Lines").
-pub(crate) const LONGEST_LINE: usize = 65_536;
+const LONGEST_LINE: usize = 65_536;
 
 /// What was read of a line so far: its bytes while they are few enough, and whether it is blank.
 #[derive(Drop)]
@@ -14,13 +15,6 @@ pub struct Piece {
     pub(crate) bytes: Vec<u8>,
     pub(crate) long: bool,
     pub(crate) blank: bool,
-}
-
-// Whether a line that was blank so far is still blank with this byte.
-fn still_blank(blank: bool, byte: u8) -> bool
-    ensures { result ≡ (blank && ((byte == 32) || ((byte == 9) || (byte == 13)))) }
-{
-    blank && (byte == b' ' || byte == b'\t' || byte == b'\r')
 }
 
 impl Piece {
@@ -34,24 +28,20 @@ impl Piece {
         }
     }
 
-    pub(crate) fn push(&mut self, byte: u8) -> Result<(), NoMemory>
-        ensures { (line : List ℕ) → Holds self.old line → IfOk result (λ _. Holds self.new (line ++ byte ∷ [])) }
+    /// More bytes of the line, none of which ends it.
+    pub(crate) fn append(&mut self, bytes: &[u8]) -> Result<(), NoMemory>
+        ensures { (line : List ℕ) → Holds self.old line → IfOk result (λ _. Holds self.new (line ++ bytes.now)) }
     {
-        let blank = still_blank(self.blank, byte);
+        self.blank = self.blank && is_blank(bytes);
         if self.long {
-            self.blank = blank;
             return Ok(());
         }
-        if self.bytes.len() >= LONGEST_LINE {
+        if self.bytes.len().saturating_add(bytes.len()) > LONGEST_LINE {
             self.long = true;
-            self.blank = blank;
             return Ok(());
         }
-        match self.bytes.push(byte) {
-            Ok(()) => {
-                self.blank = blank;
-                Ok(())
-            }
+        match self.bytes.extend_from_slice(bytes) {
+            Ok(()) => Ok(()),
             Err(_) => Err(NoMemory),
         }
     }

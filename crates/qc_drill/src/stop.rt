@@ -2,7 +2,7 @@
 ghost use Rattle.std.specs.Prelude.{◌≡◌};
 ghost use Rattle.qc_drill.specs.Stops.{status_of};
 
-use qc_base::Status;
+use qc_protocol::Status;
 
 #[derive(Clone, Copy, Debug, PartialEq, Eq)]
 pub enum Stop {

@@ -12,6 +12,16 @@ fn site_with_a_message(alloc: Global) -> Result<MemSite, Fail> {
     Ok(site)
 }
 
+// The length of a journal that was just made: behind it, less its end gate, the first message stands.
+fn made_length(alloc: Global) -> Result<u64, Fail> {
+    let mut site = new_site(alloc)?;
+    Ok(site.len(FILE)?)
+}
+
+fn damaged_at(alloc: Global, at: u64) -> Result<String, Fail> {
+    Ok(format!(in alloc; "damaged journal at {at}\n")?)
+}
+
 // How the listing ends on a site whose journal has this byte at this place.
 fn with_byte(alloc: Global, at: u64, byte: u8) -> Result<(Status, MemSink), Fail> {
     let mut site = site_with_a_message(alloc)?;
@@ -26,12 +36,26 @@ fn with_byte(alloc: Global, at: u64, byte: u8) -> Result<(Status, MemSink), Fail
 #[test]
 fn damage_is_told_where_it_is(rt: HostRuntime) -> Result<(), Fail> {
     let alloc = rt.alloc();
-    let damaged: &[u8] = b"damaged journal at 21\n";
+    let gate = made_length(alloc)?.saturating_sub(1);
+    let catalogue = damaged_at(alloc, 21)?;
+    let message = damaged_at(alloc, gate.saturating_add(5))?;
     let table = [
         (0, b'q', Status::NotMade, &b""[..]),
-        (16, 0, Status::Done, LISTED_NONE),
-        (25, 0, Status::Damaged, damaged),
-        (33, 2, Status::Damaged, damaged),
+        (16, 0, Status::NoCatalogue, &b""[..]),
+        (25, 0, Status::Damaged, catalogue.as_bytes()),
+        (gate, 0, Status::Done, LISTED_NONE),
+        (
+            gate.saturating_add(9),
+            0,
+            Status::Damaged,
+            message.as_bytes(),
+        ),
+        (
+            gate.saturating_add(17),
+            2,
+            Status::Damaged,
+            message.as_bytes(),
+        ),
     ];
     for (at, byte, ended, written) in table {
         let (status, sink) = with_byte(alloc, at, byte)?;
@@ -53,7 +77,7 @@ fn a_group_without_a_gate_behind_it_is_none(rt: HostRuntime) -> Result<(), Fail>
     Ok(())
 }
 
-// What was answered and done before the fault stands: the replies, and the journal's length.
+// What was answered and done before the fault stands: the replies, and what the journal has more.
 #[test]
 fn a_stream_that_fails_has_its_status(rt: HostRuntime) -> Result<(), Fail> {
     let alloc = rt.alloc();
@@ -64,37 +88,38 @@ fn a_stream_that_fails_has_its_status(rt: HostRuntime) -> Result<(), Fail> {
             Failing { read: 2, write: 0 },
             Status::SourceFault,
             SENT_1,
-            81,
+            64,
         ),
         (
             &[SEND, SEND, SEND],
             Failing { read: 0, write: 2 },
             Status::SinkFault,
             SENT_1,
-            145,
+            128,
         ),
         (
             &[SEND],
             Failing { read: 1, write: 0 },
             Status::SourceFault,
             b"",
-            17,
+            0,
         ),
         (
             &[SEND],
             Failing { read: 3, write: 2 },
             Status::Done,
             SENT_1,
-            81,
+            64,
         ),
     ];
-    for (input, failing, ended, written, length) in table {
+    for (input, failing, ended, written, more) in table {
         let mut site = new_site(alloc)?;
+        let made = site.len(FILE)?;
         let input = joined(alloc, input)?;
         let (status, sink) = run_words(alloc, &mut site, &["drill"], input, failing)?;
         assert_eq!(rt; status, ended);
         assert_eq!(rt; sink.contents(), written);
-        assert_eq!(rt; site.len(FILE)?, length);
+        assert_eq!(rt; site.len(FILE)?.saturating_sub(made), more);
     }
     Ok(())
 }
@@ -114,9 +139,13 @@ fn each_call_of_the_site_may_fail(rt: HostRuntime) -> Result<(), Fail> {
     let table = [
         (CallKind::Sync(FILE), 3),
         (CallKind::Len(FILE), 1),
-        (CallKind::Read(FILE), 2),
+        (CallKind::Read(FILE), 4),
         (CallKind::Write(FILE), 2),
         (CallKind::Cut(FILE), 0),
+        (CallKind::Sync(LOG), 1),
+        (CallKind::Len(LOG), 1),
+        (CallKind::Read(LOG), 2),
+        (CallKind::Write(LOG), 0),
     ];
     for (kind, calls) in table {
         for nth in 1..=calls {
@@ -168,6 +197,7 @@ fn a_send_that_is_stopped_leaves_its_message_or_none(rt: HostRuntime) -> Result<
     let none = [false; 3];
     let table = [
         (CallKind::Sync(FILE), 1, (Status::SiteFault, none)),
+        (CallKind::Sync(LOG), 1, (Status::SiteFault, none)),
         (CallKind::Write(FILE), 1, (Status::SiteFault, none)),
         (CallKind::Sync(FILE), 2, (Status::SiteFault, none)),
         (CallKind::Write(FILE), 2, (Status::SiteFault, none)),

@@ -4,20 +4,28 @@
 //! The functions here are what the tests do. A drill is given its words, its input and the calls that are to fail.
 #![tactic(auto)]
 
-ghost use Rattle.std.specs.Prelude.{◌≡◌, ◌⊎◌, ◌++◌, ◌∷◌, [], List, ℕ, IfOk, OnErr, Err};
+ghost use Rattle.std.specs.Prelude.{◌≡◌, ◌∷◌, [], IfOk};
 ghost use Rattle.std.specs.List.{flat_map};
+ghost use Rattle.qc_base.specs.declared.fact.Fact.TheVariants.{Catalogue as InForce};
 ghost use Rattle.qc_memsite.specs.Shown.{shown_by};
-ghost use Rattle.qc_journal.specs.History.{journal_header};
+ghost use Rattle.qc_catalogue.specs.Sample.{sample as sample_text};
+ghost use Rattle.qc_machine.specs.History.{by_text};
+ghost use Rattle.qc_machine.specs.Sites.{StandsFor};
 
-use qc_base::{NoMemory, Status};
+use qc_base::NoMemory;
+use qc_catalogue::sample;
 use qc_drill::run;
-use qc_journal::Journal;
+use qc_hub::{CreateError, Hub};
 use qc_memsite::{CallKind, MemSink, MemSite, MemSource, Trip};
+use qc_protocol::Status;
 use qc_site::SiteFile;
 use std::alloc::Global;
 
 /// The file of the journal.
 pub const FILE: SiteFile = SiteFile::Journal;
+
+/// The file of the log of compensations.
+pub const LOG: SiteFile = SiteFile::CrmLog;
 
 /// What is to fail in a drill, by the numbers of the calls from 1. 0 fails none.
 #[derive(Clone, Copy, Debug)]
@@ -31,14 +39,25 @@ pub struct Failing {
 /// Nothing fails.
 pub const NOTHING: Failing = Failing { read: 0, write: 0 };
 
-/// A site with a journal without facts. The error is a fault of the site or want of memory.
+/// The status by which a command ends that can't make a site.
+pub fn status_of(error: &CreateError) -> Status {
+    match error {
+        CreateError::SiteFault => Status::SiteFault,
+        CreateError::AlreadyMade => Status::AlreadyMade,
+        CreateError::BadCatalogue(_) => Status::BadCatalogue,
+        CreateError::NoMemory => Status::NoMemory,
+    }
+}
+
+/// A site that was made from the sample catalogue. The error is a fault of the site or want of memory.
 pub fn new_site(alloc: Global) -> Result<MemSite, Status>
-    ensures journal { IfOk result (λ site. (shown_by site.kept).journal ≡ journal_header ++ 0 ∷ []) }
-    ensures refused { OnErr result ((result ≡ Err Status.SiteFault) ⊎ (result ≡ Err Status.NoMemory)) }
+    ensures { IfOk result (λ site. StandsFor by_text (shown_by site.kept) (InForce sample_text ∷ [])) }
 {
     let mut site = MemSite::make(alloc).map_err(|_| Status::NoMemory)?;
-    Journal::make(&mut site).map_err(|_| Status::SiteFault)?;
-    Ok(site)
+    match Hub::create(alloc, &mut site, sample().as_bytes()) {
+        Ok(()) => Ok(site),
+        Err(error) => Err(status_of(&error)),
+    }
 }
 
 /// Words of a command line. The error is want of memory.
@@ -99,8 +118,16 @@ pub fn drill(
     run_words(alloc, site, &["drill"], joined(alloc, input)?, NOTHING)
 }
 
+mod memory;
+
+pub use memory::drill_in_memory;
+
+#[cfg(test)]
+mod creation;
 #[cfg(test)]
 mod faults;
+#[cfg(test)]
+mod inits;
 #[cfg(test)]
 mod limits;
 #[cfg(test)]

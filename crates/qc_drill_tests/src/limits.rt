@@ -37,7 +37,7 @@ fn line_of_calls(alloc: Global, count: usize) -> Result<Vec<u8>, Fail> {
 fn lines_and_orders_have_limits(rt: HostRuntime) -> Result<(), Fail> {
     let alloc = rt.alloc();
     let table: [(Vec<u8>, &[u8]); 7] = [
-        (line_of(alloc, b'x', 65_536)?, NOT_BUILT),
+        (line_of(alloc, b'x', 65_536)?, NO_LINE),
         (line_of(alloc, b'x', 65_537)?, LINE_TOO_LONG),
         (line_of(alloc, b' ', 65_537)?, b""),
         (padded(alloc, LIST_UNENDED, 65_536)?, LISTED_NONE),

@@ -27,6 +27,17 @@ pub const LIST_NOT_UTF8: &[u8] = b"{\"at\":0,\"do\":\"queues\",\"app\":\"Orders\
 
 pub const EMPTY_ORDER: &[u8] = b"{}\n";
 
+pub const LIST_OF_ONE: &[u8] = b"[1]\n";
+
+pub const NONSENSE: &[u8] = b"nonsense\n";
+
+pub const TAKE_BY_NO_PLAYER: &[u8] =
+    b"{\"at\":0,\"do\":\"take\",\"player\":-1,\"app\":\"Orders\"}\n";
+
+pub const TAKE: &[u8] = b"{\"at\":0,\"do\":\"take\",\"player\":1,\"app\":\"Orders\"}\n";
+
+pub const LIST_AND_MORE: &[u8] = b"{\"at\":0,\"do\":\"queues\",\"app\":\"Orders\",\"queue\":0}\n";
+
 pub const BLANK: &[u8] = b" \t\r\n";
 
 pub const SENT_1: &[u8] = b"sent 1\n";
@@ -34,6 +45,14 @@ pub const SENT_1: &[u8] = b"sent 1\n";
 pub const SENT_2: &[u8] = b"sent 2\n";
 
 pub const NOT_BUILT: &[u8] = b"refused 3 NotBuilt\n";
+
+pub const NO_LINE: &[u8] = b"refused 2 Malformed line\n";
+
+pub const NO_MOMENT: &[u8] = b"refused 2 Malformed at\n";
+
+pub const NO_PLAYER: &[u8] = b"refused 2 Malformed player\n";
+
+pub const ONE_MORE_MEMBER: &[u8] = b"refused 2 Malformed unknown\n";
 
 pub const LINE_TOO_LONG: &[u8] = b"refused 1 LineTooLong\n";
 
@@ -49,6 +68,17 @@ pub const LISTED_1_AT_5: &[u8] =
 pub const LISTED_2_AT_5: &[u8] =
     b"queues Orders 1/0/5, 2/0/5; Orders_0; Orders_1; Orders_2; Orders_3; Orders_4; Orders_DeadQueue; consumed 0\n";
 
-// The header, the group of the message and the end gate.
-pub const JOURNAL: [u8; 81] =
-    *b"QC-JOURNAL-0001\n\x01\x00\x00\x00\x3b\x00\x00\x00\x37\x02\x00\x00\x00\x00\x00\x00\x00\x01\x00\x00\x00\x00\x00\x00\x00\x00\x00\x24\x06Orders\x05Order\x01\x05Place\x02\x01\x04bolt\x02\x00\x00\x00\x00\x00\x00\x00\x04\x00";
+// The group of the message and the end gate.
+pub const GROUP: [u8; 65] =
+    *b"\x01\x00\x00\x00\x3b\x00\x00\x00\x37\x02\x00\x00\x00\x00\x00\x00\x00\x01\x00\x00\x00\x00\x00\x00\x00\x00\x00\x24\x06Orders\x05Order\x01\x05Place\x02\x01\x04bolt\x02\x00\x00\x00\x00\x00\x00\x00\x04\x00";
+
+pub const NOT_QUEUEABLE: &[u8] =
+    b"bad catalogue: NotQueueable application.Orders.component.Order.method.Place\n";
+
+pub const PHASE_MISSING: &[u8] = b"bad catalogue: PhaseMissing till\n";
+
+pub const BAD_APPLICATION: &[u8] = b"bad catalogue: BadField application\n";
+
+pub const TEXT_TOO_LONG: &[u8] = b"bad catalogue: TextTooLong\n";
+
+pub const NOT_TOML: &[u8] = b"bad catalogue: NotToml\n";

@@ -3,12 +3,14 @@ pub mod Groups
 mod Stands
 mod Making
 pub mod Fronts
-mod Same
+pub mod Same
 pub mod Payload
 mod Found
+mod Begun
 mod Closing
 mod Next
 mod ReadOn
 pub mod Staged
 pub mod Chained
 pub mod ReadBack
+pub mod Opened

@@ -2,19 +2,19 @@
 use Rattle.std.proofs.Common.{◌≡◌, ℕ, zero, suc, ◌+◌, ◌<◌, ◌≤◌, max, List, [], ◌∷◌, ◌++◌, length, take, drop, refl, sym, ◌∙◌, ap, subst, arith, append_assoc, length-append, take-append-drop, true}
 use Rattle.std.specs.List.{flat_map}
 use Rattle.std.proofs.lemmas.List.{drop_at, drop-drop, length-take-le, length-drop}
-use Rattle.qc_site.specs.Image.{Image}
-use Rattle.qc_site.specs.Disk.{written, Images, Certain}
-use Rattle.qc_frame.specs.Frame.{groups_past, group, size_bytes, IsPayload, Leads, EntriesOf, StopsBefore}
+use Rattle.qc_site.specs.Image.{Image, bytes_of, with_bytes}
+use Rattle.qc_site.specs.Disk.{written, Images, Certain, FileStep}
+use Rattle.qc_frame.specs.Frame.{groups_past, groups_at, group, size_bytes, IsPayload, Leads, EntriesOf, StopsBefore}
 use Rattle.qc_frame.specs.declared.entries.Entry.{Entry}
 use Rattle.qc_frame.specs.Found.{OpenFor}
 use Rattle.qc_frame.specs.Gate.{ShutAt, After}
-use Rattle.qc_frame.specs.Log.{LogView, StandsOn, SameLog, groups_at, NextGroup, NoGroup, DamagedGroup}
+use Rattle.qc_frame.specs.Log.{LogView, StandsOn, SameFrom, NextGroup, NoGroup, DamagedGroup}
 use Rattle.qc_frame.proofs.Groups.{groups_closed, groups_group, rest_at, led_by, led_on, length-size_bytes}
 use Rattle.qc_frame.proofs.Closing.{same_log, shut_written, length-written}
 
 module _ (file : List ℕ) (images : Images) (log : LogView) (st : StandsOn file images log) where
   pub place_inside : log.place ≤ length file
-  place_inside = omega (arith, ap length st.led.is, length-append st.led.header (flat_map group st.payloads ++ st.led.rest), length-append (flat_map group st.payloads) st.led.rest, st.led.long, st.led.at)
+  place_inside = omega (arith, ap length st.led.is, length-append st.led.front (flat_map group st.payloads ++ st.led.rest), length-append (flat_map group st.payloads) st.led.rest, st.led.long, st.led.at)
 
   -- an open group stands there
   module _ (size : ℕ) (found : OpenFor size (drop log.place file)) where
@@ -67,7 +67,7 @@ module _ (file : List ℕ) (images : Images) (log : LogView) (st : StandsOn file
       stops = subst (λ (l : List ℕ). StopsBefore (log.place + 5) at l) read stops;
     }
 
-    abbrev pub led_next : Leads file (log.place + 5 + length (take size found.more)) (st.payloads ++ take size found.more ∷ [])
+    abbrev pub led_next : Leads file log.start (log.place + 5 + length (take size found.more)) (st.payloads ++ take size found.more ∷ [])
     led_next = led_on file file log.place st.payloads st.led (take size found.more) (drop size found.more) fits (sym (take-append-drop log.place file) ∙ ap (λ (l : List ℕ). take log.place file ++ l) here) more
 
     -- a log behind the end isn't before an open group
@@ -81,9 +81,10 @@ module _ (file : List ℕ) (images : Images) (log : LogView) (st : StandsOn file
     stands_next later new is certain = subst (λ (x : LogView). StandsOn file later x) (sym is) (record {
       size = st.size;
       certain = certain;
+      behind = st.behind;
       payloads = st.payloads ++ take size found.more ∷ [];
       led = record {
-        header = led_next.header;
+        front = led_next.front;
         rest = led_next.rest;
         is = led_next.is;
         long = led_next.long;
@@ -99,6 +100,7 @@ module _ (file : List ℕ) (images : Images) (log : LogView) (st : StandsOn file
   stands_zero later new bytes is shut certain = subst (λ (x : LogView). StandsOn file later x) (sym is) (record {
     size = st.size;
     certain = certain;
+    behind = st.behind;
     payloads = st.payloads;
     led = st.led;
     closed = λ e. (bytes, sym (rest_at file log.place st.payloads st.led) ∙ shut);
@@ -114,12 +116,12 @@ module _ (file : List ℕ) (images : Images) (log : LogView) (st : StandsOn file
   no_group_zero new bytes is shut = record {
     none = ap (λ (l : List ℕ). groups_past zero l) shut ∙ groups_closed 0 bytes (omega arith);
     bytes = written_zero bytes shut;
-    same = record { header = refl; same = refl };
+    same = record { front = refl; followed = λ lt. lt; same = refl };
     log = is ∙ ap (λ n. record log { length = n; ended = true }) st.size;
   }
 
   -- the gate is closed by a byte 0
-  pub same_shut : (new : List ℕ) → groups_past zero (drop log.place file) ≡ [] → ShutAt log.place file new → SameLog file new
+  pub same_shut : (new : List ℕ) → groups_past zero (drop log.place file) ≡ [] → ShutAt log.place file new → SameFrom log.start file new
   same_shut new none at = same_log file new log.place st.payloads st.led none at
 
   pub no_group : (new : LogView) → new ≡ record log { length = max log.length (log.place + 1); ended = true } → groups_past zero (drop log.place file) ≡ [] → NoGroup file (written file log.place (0 ∷ [])) log new
@@ -130,27 +132,35 @@ module _ (file : List ℕ) (images : Images) (log : LogView) (st : StandsOn file
     log = is ∙ ap (λ n. record log { length = n; ended = true }) (ap (λ n. max n (log.place + 1)) st.size ∙ sym (length-written log.place file place_inside));
   }
 
-  abbrev pub led_shut : Leads (written file log.place (0 ∷ [])) log.place st.payloads
+  pub shut_step : (shown now : Image) → groups_past zero (drop log.place file) ≡ [] → bytes_of log.file shown ≡ file → now ≡ with_bytes log.file (written file log.place (0 ∷ [])) shown → FileStep log.file (SameFrom log.start) shown now
+  shut_step shown now none there is = record {
+    bytes = written file log.place (0 ∷ []);
+    is = is;
+    by = subst (λ (l : List ℕ). SameFrom log.start l (written file log.place (0 ∷ []))) (sym there) (same_shut (written file log.place (0 ∷ [])) none (shut_written log.place file place_inside));
+  }
+
+  abbrev pub led_shut : Leads (written file log.place (0 ∷ [])) log.start log.place st.payloads
   led_shut = led_by file (written file log.place (0 ∷ [])) log.place st.payloads st.led (0 ∷ drop (log.place + 1) file) (append_assoc (take log.place file) (0 ∷ []) (drop (log.place + 1) file)) (omega arith)
 
   pub stands_shut : (later : Images) (new : LogView) → new ≡ record log { length = max log.length (log.place + 1); ended = true } → Certain log.file (written file log.place (0 ∷ [])) later → StandsOn (written file log.place (0 ∷ [])) later new
   stands_shut later new is certain = subst (λ (x : LogView). StandsOn (written file log.place (0 ∷ [])) later x) (sym is) (record {
     size = ap (λ n. max n (log.place + 1)) st.size ∙ sym (length-written log.place file place_inside);
     certain = certain;
+    behind = st.behind;
     payloads = st.payloads;
     led = led_shut;
     closed = λ e. (drop (log.place + 1) file, refl);
   })
 
   -- each image while it is closed has the same groups
-  pub each_closing : (before mid : Images) → ((c : Image) → mid c → before c) → Certain log.file file mid → groups_past zero (drop log.place file) ≡ [] → (c : Image) → After log.file (ShutAt log.place) mid c → After log.file SameLog before c
+  pub each_closing : (before mid : Images) → ((c : Image) → mid c → before c) → Certain log.file file mid → groups_past zero (drop log.place file) ≡ [] → (c : Image) → After log.file (ShutAt log.place) mid c → After log.file (SameFrom log.start) before c
   each_closing before mid fewer certain none c from = (
     from.0,
     fewer from.0 from.1,
     record {
       bytes = from.2.bytes;
       is = from.2.is;
-      by = subst (λ (l : List ℕ). SameLog l from.2.bytes) (sym (certain from.0 from.1))
+      by = subst (λ (l : List ℕ). SameFrom log.start l from.2.bytes) (sym (certain from.0 from.1))
           (same_shut from.2.bytes none (subst (λ (l : List ℕ). ShutAt log.place l from.2.bytes) (certain from.0 from.1) from.2.by));
     },
   )

@@ -5,10 +5,9 @@ use Rattle.std.proofs.lemmas.Bool.{and_parts, leb-true}
 use Rattle.std.proofs.lemmas.List.{length-take, map-append}
 use Rattle.std.proofs.lemmas.List.Elements.{All-nil, All-cons, All-head, All-tail, All-push}
 use Rattle.qc_site.specs.Image.{Image, bytes_of}
-use Rattle.qc_frame.specs.Frame.{size_at, is_open, groups_past, groups, entry, IsEntries}
-use Rattle.qc_frame.specs.Log.{LogView, Spelled, Whole, SameLog, DamagedBehind, groups_at}
+use Rattle.qc_frame.specs.Frame.{size_at, is_open, groups_past, groups_at, groups, entry, IsEntries}
+use Rattle.qc_frame.specs.Log.{LogView, Spelled, WholeFrom, Whole, SameLog, DamagedBehind}
 use Rattle.qc_frame.proofs.Payload.{entries_alone, length-entry}
-use Rattle.qc_frame.proofs.Groups.{groups_past-drop}
 
 pub groups_short : (n : ℕ) (file : List ℕ) → All (λ p. length p < 2 ^ 32) (groups_past n file)
 groups_short n [] = All-nil (λ p. length p < 2 ^ 32)
@@ -52,13 +51,13 @@ flat_some (e ∷ entries) any = omega (arith, length-append (entry e) (flat_map 
 
 -- the groups of a file that has one group more
 all_groups : (old new : List ℕ) (entries : List (List ℕ)) → Whole (flat_map entry entries) old new → groups_at new 16 ≡ groups old ++ flat_map entry entries ∷ []
-all_groups old new entries whole = sym (groups_past-drop 16 new) ∙ whole.more
+all_groups old new entries whole = whole.more
 
 -- what is read of a file that has one group more
 pub read_back : (old new : List ℕ) (entries : List (List ℕ)) (before lists : List (List (List ℕ))) → Whole (flat_map entry entries) old new → All (λ e. 1 ≤ length e) entries → Spelled (groups old) before → Spelled (groups_at new 16) lists → lists ≡ before ++ entries ∷ []
 read_back old new entries before lists whole some had read =
     let all = all_groups old new entries whole in
-    let short = subst (λ (l : List (List ℕ)). All (λ p. length p < 2 ^ 32) l) whole.more (groups_short 16 new) in
+    let short = subst (λ (l : List (List ℕ)). All (λ p. length p < 2 ^ 32) l) whole.more (groups_short zero (drop 16 new)) in
     spelled_alone (groups old ++ flat_map entry entries ∷ []) lists (before ++ entries ∷ []) short (subst (λ (l : List (List ℕ)). Spelled l lists) all read) (spelled_more (groups old) before entries had some)
 
 -- where the groups are spelled, none of them is no list of entries
@@ -90,11 +89,12 @@ pub some_wait : (log now : LogView) (entries : List (List ℕ)) (spare : ℕ) �
 some_wait log now entries spare is waits any = omega (arith, ap length (waiting log now entries spare is waits), flat_some entries any)
 
 -- and the group that they are once they are forced
-pub made_whole : (log now : LogView) (entries : List (List ℕ)) (spare : ℕ) (old new : Image) → now ≡ record log { payload = log.payload ++ flat_map entry entries; spare = spare } → log.payload ≡ [] → Whole now.payload (bytes_of now.file old) (bytes_of now.file new) → Whole (flat_map entry entries) (bytes_of log.file old) (bytes_of log.file new)
-made_whole log now entries spare old new is waits whole =
-    subst (λ f. Whole (flat_map entry entries) (bytes_of f old) (bytes_of f new)) (ap (λ (l : LogView). l.file) is) (
-    subst (λ (p : List ℕ). Whole p (bytes_of now.file old) (bytes_of now.file new)) (waiting log now entries spare is waits) whole)
+pub made_whole : (log now : LogView) (entries : List (List ℕ)) (spare : ℕ) (old new : Image) → now ≡ record log { payload = log.payload ++ flat_map entry entries; spare = spare } → log.start ≡ 16 → log.payload ≡ [] → WholeFrom now.start now.payload (bytes_of now.file old) (bytes_of now.file new) → Whole (flat_map entry entries) (bytes_of log.file old) (bytes_of log.file new)
+made_whole log now entries spare old new is start waits whole =
+    subst (λ n. WholeFrom n (flat_map entry entries) (bytes_of log.file old) (bytes_of log.file new)) (ap (λ (l : LogView). l.start) is ∙ start) (
+    subst (λ f. WholeFrom now.start (flat_map entry entries) (bytes_of f old) (bytes_of f new)) (ap (λ (l : LogView). l.file) is) (
+    subst (λ (p : List ℕ). WholeFrom now.start p (bytes_of now.file old) (bytes_of now.file new)) (waiting log now entries spare is waits) whole))
 
 -- also where the file is read on without a change of its groups
 pub whole_still : (payload old mid new : List ℕ) → Whole payload old mid → SameLog mid new → Whole payload old new
-whole_still payload old mid new whole same = record { header = same.header ∙ whole.header; more = same.same ∙ whole.more }
+whole_still payload old mid new whole same = record { front = same.front ∙ whole.front; more = same.same ∙ whole.more }

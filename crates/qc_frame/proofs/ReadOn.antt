@@ -3,9 +3,9 @@ use Rattle.std.proofs.Common.{◌≡◌, ℕ, ◌≤◌, List, [], ◌∷◌, �
 use Rattle.std.specs.List.{flat_map}
 use Rattle.std.proofs.lemmas.List.{map-append}
 use Rattle.std.proofs.lemmas.List.Elements.{All-push}
-use Rattle.qc_frame.specs.Frame.{entry}
+use Rattle.qc_frame.specs.Frame.{entry, groups_at}
 use Rattle.qc_frame.specs.declared.entries.Entry.{Entry}
-use Rattle.qc_frame.specs.Log.{LogView, NextGroup, ReadTo, groups_at}
+use Rattle.qc_frame.specs.Log.{LogView, NextGroup, ReadTo}
 
 all_push : (lists : List (List (List ℕ))) (e : List (List ℕ)) → All (λ entries. All (λ e. 1 ≤ length e) entries) lists → All (λ e. 1 ≤ length e) e → All (λ entries. All (λ e. 1 ≤ length e) entries) (lists ++ e ∷ [])
 all_push lists e all here = All-push (λ entries. All (λ e. 1 ≤ length e) entries) lists e all here

@@ -1,5 +1,5 @@
 -- A log file: a header of 16 bytes, open groups, a closed gate, and what stands behind it.
-use Rattle.std.specs.Prelude.{◌<◌, ◌≡◌, ◌⊎◌, ℕ, zero, suc, ◌+◌, ◌≤◌, List, [], ◌∷◌, ◌++◌, length, take, drop, Bool, ◌&&◌, ◌==◌, nat_le, if◌then◌else◌, All, map}
+use Rattle.std.specs.Prelude.{◌<◌, ◌≡◌, ◌≢◌, ◌⊎◌, ℕ, zero, suc, ◌+◌, ◌≤◌, List, [], ◌∷◌, ◌++◌, length, take, drop, Bool, ◌&&◌, ◌==◌, nat_le, if◌then◌else◌, All, map}
 use Rattle.std.specs.List.{flat_map}
 use Rattle.std.specs.Int.{w32, to_be_bytes, from_be_bytes}
 use Rattle.qc_frame.specs.declared.entries.Entry.{Entry}
@@ -22,9 +22,21 @@ groups_past n [] = []
 groups_past (suc n) (byte ∷ rest) = groups_past n rest
 groups_past zero (gate ∷ rest) = if is_open gate rest then take (size_at rest) (drop 4 rest) ∷ groups_past (size_at rest + 4) rest else []
 
--- the open groups of a file
+-- the open groups from a place of a file on
+abbrev pub groups_at : List ℕ → ℕ → List (List ℕ)
+groups_at file place = groups_past zero (drop place file)
+
+-- the open groups of a file: those behind its header
 abbrev pub groups : List ℕ → List (List ℕ)
-groups file = groups_past 16 file
+groups file = groups_at file 16
+
+-- the file begins with this header
+abbrev pub HasHeader : List ℕ → List ℕ → Type 0
+HasHeader header file = take 16 file ≡ header
+
+-- the file begins with this header, and the gate behind it is open
+abbrev pub IsBegun : List ℕ → List ℕ → Type 0
+IsBegun header file = HasHeader header file × (groups file ≢ [])
 
 -- an open group with this payload
 abbrev pub group : List ℕ → List ℕ
@@ -72,12 +84,12 @@ pub record StopsBefore (at n : ℕ) (payload : List ℕ) : Type 0 where
   -- so it isn't one in any way
   pub none : (entries : List (List ℕ)) → ¬ IsEntries entries payload
 
--- the file is a header, these open groups up to a place, and the rest
-pub record Leads (file : List ℕ) (place : ℕ) (payloads : List (List ℕ)) : Type 0 where
-  pub header : List ℕ
+-- the file is a front of so many bytes, these open groups from there to a place, and the rest
+pub record Leads (file : List ℕ) (start place : ℕ) (payloads : List (List ℕ)) : Type 0 where
+  pub front : List ℕ
   pub rest : List ℕ
-  pub is : file ≡ header ++ (flat_map group payloads ++ rest)
-  pub long : length header ≡ 16
+  pub is : file ≡ front ++ (flat_map group payloads ++ rest)
+  pub long : length front ≡ start
   pub sized : All IsPayload payloads
-  pub at : place ≡ 16 + length (flat_map group payloads)
+  pub at : place ≡ start + length (flat_map group payloads)
   pub further : (payloads ≡ []) ⊎ (1 ≤ length rest)

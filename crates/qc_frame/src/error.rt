@@ -1,10 +1,27 @@
-// What a log answers where it can't go on.
+// What a log answers where it can't go on, and where a file is damaged.
 ghost use Rattle.std.specs.Prelude.{◌≡◌};
 
 use qc_base::NoMemory;
-use qc_site::Failed;
+use qc_site::{Failed, SiteFile};
 use std::alloc::AllocError;
 use thiserror::Error;
+
+/// The first entry of a file that spells nothing, or doesn't follow from those before, by the offset of its length.
+#[derive(Clone, Copy, Debug, PartialEq, Eq)]
+pub struct Damage {
+    pub file: SiteFile,
+    /// In bytes from the start of the file.
+    pub at: u64,
+}
+
+impl Damage {
+    /// The same place once more.
+    pub fn copy(&self) -> Damage
+        ensures { result ≡ self.now }
+    {
+        *self
+    }
+}
 
 /// Why a log couldn't be opened or read on (docs/FORMATS.md, "Frame").
 #[derive(Clone, Copy, Debug, PartialEq, Eq, Error)]

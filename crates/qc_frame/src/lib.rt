@@ -28,6 +28,6 @@ mod reading;
 mod runs;
 
 pub use entries::{Entries, Entry};
-pub use error::LogError;
+pub use error::{Damage, LogError};
 pub use log::{Group, Log};
 pub use runs::{force_and_read, read_to_end};

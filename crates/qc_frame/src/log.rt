@@ -4,8 +4,8 @@ ghost use Rattle.qc_site.specs.Image.{bytes_of, with_bytes};
 ghost use Rattle.qc_site.specs.Disk.{Certain, LeavesOnly, NoMore};
 ghost use Rattle.qc_site.specs.Causes.{HasCause};
 ghost use Rattle.qc_frame.specs.Frame.{entry, size_bytes};
-ghost use Rattle.qc_frame.specs.Gate.{After, opened};
-ghost use Rattle.qc_frame.specs.Log.{Stands, Whole, WholeOrNot, forced, staged, BeingMade, SameLog, at_header, NextGroup, NoGroup, DamagedGroup};
+ghost use Rattle.qc_frame.specs.Log.{CanStage, staged, DamagedGroup};
+ghost use Rattle.qc_frame.specs.Calls.{LogStands, FindsHeader, LooksAt, MakesLog, OpensLog, FindsGroup, ReadsOn, Forces};
 
 use crate::entries::{Entries, read_payload};
 use crate::error::LogError;
@@ -39,13 +39,16 @@ impl Group {
 
 /// A log that is read group by group up to its end, and to which groups are then added.
 ///
-/// Contracts see the file, the place of the gate before which the log stands, the file's length, whether the end was
-/// reached, the staged entries as they stand in a payload, and the bytes of room for further ones. `Stands` says that
-/// the log stands on a site: its length is the file's, each image of the file is what the file reads as, the place is
-/// reached over open groups alone, and a log that has reached its end has a byte 0 there.
+/// Contracts see the file, the place at which the log was opened, the place of the gate before which it stands, the
+/// file's length, whether the end was reached, the staged entries as they stand in a payload, and the bytes of room for
+/// further ones. `LogStands` says that the log stands on a site: its length is the file's, each image of the file is
+/// what the file reads as, the place is reached over open groups alone from where the log was opened, and a log that has
+/// reached its end has a byte 0 there. What a call leaves of log and site is in `specs/Calls.antt`.
 #[derive(Drop)]
 pub struct Log {
     file: SiteFile,
+    // Where it was opened.
+    start: u64,
     place: u64,
     length: u64,
     ended: bool,
@@ -60,7 +63,7 @@ impl Model for Log {
 
     ghost Value = { LogView };
 
-    ghost view = { λ a. record { file = a.file; place = a.place; length = a.length; ended = a.ended; payload = drop 4 a.staged.items; spare = a.spare } };
+    ghost view = { λ a. record { file = a.file; start = a.start; place = a.place; length = a.length; ended = a.ended; payload = drop 4 a.staged.items; spare = a.spare } };
 
     ghost invariant = { λ a. (a.place ≤ 4611686018427387904) × (a.length ≤ 4611686018427387904) × (4 ≤ vec_len a.staged) × (vec_len a.staged + a.spare < vec_capacity a.staged) × (vec_len a.staged ≤ 33554436) × (4 < vec_len a.staged → a.ended ≡ true) };
 }
@@ -99,16 +102,31 @@ fn put_length(bytes: &mut [u8], size: u32)
     bytes[..4].copy_from_slice(&size.to_be_bytes());
 }
 
+// Syncs the file and tells its length, where its first 16 bytes are the header.
+fn length_under<S: Site>(
+    site: &mut S,
+    file: SiteFile,
+    header: &[u8; 16],
+) -> Result<Option<u64>, Failed>
+    ensures { FindsHeader S.Site file header.now result site.old site.new }
+{
+    site.sync(file)?;
+    let length = site.len(file)?;
+    let mut first = [0u8; 16];
+    let count = site.read(file, 0, &mut first)?;
+    if count < 16 || length < 16 || first.as_slice() != header.as_slice() {
+        return Ok(None);
+    }
+    Ok(Some(length))
+}
+
 impl Log {
     /// Leaves an empty log in the file: the header and a closed gate, 17 bytes (docs/FORMATS.md, "Frame").
     ///
     /// What the file held before is lost. `Failed` comes only where the site's count of faults rose. At each moment an
     /// image has a front of the old file, or at most 17 bytes.
     pub fn make<S: Site>(site: &mut S, file: SiteFile, header: &[u8; 16]) -> Result<(), Failed>
-        ensures made { S.told → OnOk result (S.shown site.new ≡ with_bytes file (header.now ++ 0 ∷ []) (S.shown site.old)) }
-        ensures certain { S.told → OnOk result (Certain file (header.now ++ 0 ∷ []) (S.may_leave site.new)) }
-        ensures any_moment { S.told → LeavesOnly S.moment S.left_since site.old site.new (After file BeingMade (S.may_leave site.old)) }
-        ensures cause { HasCause (S.faults site.old) (S.faults site.new) (IsErr result) }
+        ensures { MakesLog S.Site file header.now result site.old site.new }
     {
         site.cut(file, 0)?;
         site.sync(file)?;
@@ -129,33 +147,42 @@ impl Log {
         file: SiteFile,
         header: &[u8; 16],
     ) -> Result<Log, LogError>
-        ensures log { IfOk result (λ log. log ≡ at_header file log.length) }
-        ensures header { S.told → OnOk result (take 16 (bytes_of file (S.shown site.old)) ≡ header.now) }
-        ensures stands { IfOk result (Stands S.told (S.shown site.new) (S.may_leave site.new)) }
-        ensures same { S.told → ¬ IsErrOf result LogError.SiteFault → S.shown site.new ≡ S.shown site.old }
-        ensures crash { S.told → NoMore (S.may_leave site.old) (S.may_leave site.new) }
-        ensures any_moment { S.told → LeavesOnly S.moment S.left_since site.old site.new (S.may_leave site.old) }
-        ensures not_made { S.told → IsErrOf result LogError.NotMade → take 16 (bytes_of file (S.shown site.old)) ≢ header.now }
+        ensures opens { OpensLog S.Site file header.now 16 (λ log. log) result site.old site.new }
         ensures not_damaged { (at : ℕ) → ¬ IsErrOf result (LogError.Damaged at) }
-        ensures cause { HasCause (S.faults site.old) (S.faults site.new) (IsErrOf result LogError.SiteFault) }
     {
-        site.sync(file)?;
-        let length = site.len(file)?;
-        let mut first = [0u8; 16];
-        let count = site.read(file, 0, &mut first)?;
-        if count < 16 || length < 16 || first.as_slice() != header.as_slice() {
+        let Some(length) = length_under(site, file, header)? else {
             return Err(LogError::NotMade);
-        }
+        };
         let mut staged = Vec::with_capacity(alloc, 5)?;
         staged.extend_from_slice(&[0; 4])?;
         Ok(Log {
             file,
+            start: 16,
             place: 16,
             length,
             ended: false,
             staged,
             spare: 0,
         })
+    }
+
+    /// Syncs the file and tells whether its first 16 bytes are the header and the gate behind them is open.
+    ///
+    /// `Failed` comes only where the site's count of faults rose. Nothing is written.
+    pub fn is_begun<S: Site>(
+        site: &mut S,
+        file: SiteFile,
+        header: &[u8; 16],
+    ) -> Result<bool, Failed>
+        ensures { LooksAt S.Site file header.now result site.old site.new }
+    {
+        let Some(length) = length_under(site, file, header)? else {
+            return Ok(false);
+        };
+        match read_gate(site, file, 16, length)? {
+            Gate::Open(_) => Ok(true),
+            _ => Ok(false),
+        }
     }
 
     /// The next open group, or None at the end, where a gate that is missing or isn't 0 is closed.
@@ -168,27 +195,10 @@ impl Log {
         alloc: Global,
         site: &mut S,
     ) -> Result<Option<Group>, LogError>
-        requires stands { Stands S.told (S.shown site.old) (S.may_leave site.old) self.old }
-
-        ensures group { S.told → IfOk result (λ r. IfSome r (λ group. NextGroup (bytes_of self.old.file (S.shown site.old)) self.old self.new group.at group.entries)) }
-        // Whatever the site: what else of the log stays, and that a loop to the end ends.
-        ensures moved { IfOk result (λ r. IfSome r (λ group. self.new ≡ record self.old { place = self.new.place })) }
-        ensures ended { IfOk result (λ r. IfNone r (self.new ≡ record self.old { length = self.new.length; ended = true })) }
-        ensures here { IfOk result (λ r. IfSome r (λ group. group.at ≡ self.old.place)) }
-        ensures onward { IfOk result (λ r. IfSome r (λ group. (self.old.place < self.new.place) × (self.new.place ≤ 4611686018427387904))) }
-        ensures failed { OnErr result (self.new ≡ self.old) }
-        ensures still { S.told → IfOk result (λ r. IfSome r (λ group. S.shown site.new ≡ S.shown site.old)) }
-        ensures end { S.told → IfOk result (λ r. IfNone r (NoGroup (bytes_of self.old.file (S.shown site.old)) (bytes_of self.old.file (S.shown site.new)) self.old self.new)) }
-        ensures stands { OnOk result (Stands S.told (S.shown site.new) (S.may_leave site.new) self.new) }
-        ensures others { S.told → OnOk result (S.shown site.new ≡ with_bytes self.old.file (bytes_of self.old.file (S.shown site.new)) (S.shown site.old)) }
-
-        // A crash at any moment of the call leaves the same groups, and all else as it was.
-        ensures any_moment { S.told → LeavesOnly S.moment S.left_since site.old site.new (After self.old.file SameLog (S.may_leave site.old)) }
-
-        ensures damaged { S.told → (at : ℕ) → IsErrOf result (LogError.Damaged at) → DamagedGroup (bytes_of self.old.file (S.shown site.old)) self.old.place at }
-        ensures unchanged { S.told → IsErr result → ¬ IsErrOf result LogError.SiteFault → S.shown site.new ≡ S.shown site.old }
-        ensures not_made { ¬ IsErrOf result LogError.NotMade }
-        ensures cause { HasCause (S.faults site.old) (S.faults site.new) (IsErrOf result LogError.SiteFault) }
+        requires stands { LogStands S.Site self.old site.old }
+        ensures finds { FindsGroup S.Site result self.old site.old self.new site.new }
+        ensures reads { ReadsOn S.Site (DamagedGroup (bytes_of self.old.file (S.shown site.old)) self.old.place)
+            result self.old site.old self.new site.new }
     {
         match read_gate(site, self.file, self.place, self.length)? {
             Gate::Open(size) => {
@@ -246,10 +256,7 @@ impl Log {
     /// The entry has at least one byte, the end of the log was reached, there is room for the bytes and four more, and
     /// the payload stays within 33,554,432 bytes.
     pub fn stage(&mut self, bytes: &[u8])
-        requires some { 1 ≤ length bytes.now }
-        requires ended { self.old.ended ≡ true }
-        requires room { length bytes.now + 4 ≤ self.old.spare }
-        requires fits { length self.old.payload + length bytes.now + 4 ≤ 33554432 }
+        requires { CanStage self.old bytes.now }
         ensures { self.new ≡ staged self.old bytes.now }
     {
         append_entry(&mut self.staged, bytes);
@@ -262,22 +269,8 @@ impl Log {
     /// leaves a file that has it, and the room that the entries took is free again. `Failed` comes only where the
     /// site's count of faults rose; the staged entries are then gone, and the log is opened again.
     pub fn force<S: Site>(&mut self, site: &mut S) -> Result<(), Failed>
-        requires stands { Stands S.told (S.shown site.old) (S.may_leave site.old) self.old }
-
-        ensures nothing { self.old.payload ≡ [] → IsOk result × (self.new ≡ self.old) × (site.new ≡ site.old) }
-
-        ensures log { 0 < length self.old.payload → OnOk result (self.new ≡ forced self.old) }
-        ensures failed { OnErr result (self.new ≡ record self.old { payload = [] }) }
-        ensures bytes { S.told → 0 < length self.old.payload → OnOk result (bytes_of self.old.file (S.shown site.new) ≡ opened (bytes_of self.old.file (S.shown site.old)) self.old.place (size_bytes (length self.old.payload) ++ self.old.payload ++ 0 ∷ [])) }
-        ensures forced { S.told → 0 < length self.old.payload → OnOk result (Whole self.old.payload (bytes_of self.old.file (S.shown site.old)) (bytes_of self.old.file (S.shown site.new))) }
-        ensures others { S.told → OnOk result (S.shown site.new ≡ with_bytes self.old.file (bytes_of self.old.file (S.shown site.new)) (S.shown site.old)) }
-        ensures stands { OnOk result (Stands S.told (S.shown site.new) (S.may_leave site.new) self.new) }
-
-        // A crash at any moment of the call leaves the group whole or not at all, and all else as it was.
-        ensures any_moment { S.told → LeavesOnly S.moment S.left_since site.old site.new
-            (After self.old.file (WholeOrNot self.old.payload) (S.may_leave site.old)) }
-
-        ensures cause { HasCause (S.faults site.old) (S.faults site.new) (IsErr result) }
+        requires stands { LogStands S.Site self.old site.old }
+        ensures { Forces S.Site result self.old site.old self.new site.new }
     {
         let size = self.staged.len() - 4;
         if size == 0 {

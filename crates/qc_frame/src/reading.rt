@@ -1,5 +1,5 @@
 // What stands at a gate.
-ghost use Rattle.std.specs.Prelude.{◌≡◌, ◌+◌, ◌<◌, ◌≤◌, ℕ, List, length, take, drop, min, IfOk, OnOk, IsErr};
+ghost use Rattle.std.specs.Prelude.{◌≡◌, ◌+◌, ◌-◌, ◌++◌, ◌<◌, ◌≤◌, ℕ, List, length, take, drop, replicate, IfOk, OnOk, IsErr};
 ghost use Rattle.qc_site.specs.Image.{bytes_of};
 ghost use Rattle.qc_site.specs.Disk.{NoMore, Elapses};
 ghost use Rattle.qc_site.specs.Causes.{HasCause};
@@ -18,22 +18,28 @@ pub(crate) enum Gate {
 
 const MAX_PAYLOAD: u32 = 33_554_432;
 
-// The gate by the first bytes from its place on, as many as were given, in a file of this length.
-fn gate_of(head: &[u8; 5], count: usize, place: u64, file_len: u64) -> Gate
-    requires room { place ≤ 4611686018427387904 }
-    ensures inside { (size : ℕ) → result ≡ Gate.Open size → place + 5 + size < file_len }
-    ensures finds { (rest : List ℕ) → count ≡ min 5 (length rest) → take count head.now ≡ take 5 rest → place + length rest ≡ file_len → Finds rest result }
+// The five bytes of a gate: those that a read gave, and 0 for each that it didn't give.
+fn gate_bytes(head: &[u8; 5], count: usize) -> [u8; 5]
+    requires { count ≤ 5 }
+    ensures { result ≡ take count head.now ++ replicate (5 - count) 0 }
 {
-    if count == 0 {
+    let mut bytes = *head;
+    bytes[count..].fill(0);
+    bytes
+}
+
+// The gate with these five bytes, where the file has so many bytes left from its place on.
+fn gate_of(head: &[u8; 5], left: u64) -> Gate
+    ensures inside { (size : ℕ) → result ≡ Gate.Open size → size + 5 < left }
+    ensures finds { (rest : List ℕ) → length rest ≡ left → take 5 rest ≡ take left head.now → Finds rest result }
+{
+    if left == 0 {
         return Gate::NotZero;
     }
     if head[0] == 0 {
         return Gate::Zero;
     }
     if head[0] != 1 {
-        return Gate::NotZero;
-    }
-    if count < 5 {
         return Gate::NotZero;
     }
     let size = number(&head[1..]);
@@ -43,13 +49,13 @@ fn gate_of(head: &[u8; 5], count: usize, place: u64, file_len: u64) -> Gate
     if size > MAX_PAYLOAD {
         return Gate::NotZero;
     }
-    if file_len <= place + 5 + u64::from(size) {
+    if left <= 5 + u64::from(size) {
         return Gate::NotZero;
     }
     Gate::Open(size)
 }
 
-/// Reads the gate at this place of a file of this length.
+/// Reads the gate at this place of a file of this length. A byte that lies inside the file and isn't given counts as 0.
 pub(crate) fn read_gate<S: Site>(
     site: &mut S,
     file: SiteFile,
@@ -66,5 +72,5 @@ pub(crate) fn read_gate<S: Site>(
 {
     let mut head = [0u8; 5];
     let count = site.read(file, place, &mut head)?;
-    Ok(gate_of(&head, count, place, file_len))
+    Ok(gate_of(&gate_bytes(&head, count), file_len.saturating_sub(place)))
 }

@@ -4,9 +4,9 @@ ghost use Rattle.std.specs.List.{flat_map};
 ghost use Rattle.qc_site.specs.Image.{bytes_of, with_bytes};
 ghost use Rattle.qc_site.specs.Disk.{LeavesOnly};
 ghost use Rattle.qc_site.specs.Causes.{HasCause};
-ghost use Rattle.qc_frame.specs.Frame.{entry, groups};
-ghost use Rattle.qc_frame.specs.Gate.{After};
-ghost use Rattle.qc_frame.specs.Log.{Stands, Whole, groups_at, Spelled, SameLog, DamagedBehind};
+ghost use Rattle.qc_frame.specs.Frame.{entry, HasHeader};
+ghost use Rattle.qc_frame.specs.Log.{CanForce, DamagedBehind};
+ghost use Rattle.qc_frame.specs.Calls.{LogStands, ReadsAll, ReadsOn, ReadsBack};
 
 use crate::error::LogError;
 use crate::log::{Group, Log};
@@ -24,16 +24,10 @@ pub fn read_to_end<S: Site>(
     log: &mut Log,
     site: &mut S,
 ) -> Result<Vec<Group>, LogError>
-    requires stands { Stands S.told (S.shown site.old) (S.may_leave site.old) log.old }
-    ensures read { S.told → IfOk result (λ v. Spelled (groups_at (bytes_of log.old.file (S.shown site.old)) log.old.place) (map (λ group. map (λ e. e.bytes) group.entries) v.items)) }
-    ensures same { S.told → OnOk result (SameLog (bytes_of log.old.file (S.shown site.old)) (bytes_of log.old.file (S.shown site.new))) }
-    ensures others { S.told → OnOk result (S.shown site.new ≡ with_bytes log.old.file (bytes_of log.old.file (S.shown site.new)) (S.shown site.old)) }
-    ensures stands { OnOk result (Stands S.told (S.shown site.new) (S.may_leave site.new) log.new) }
-    ensures ended { OnOk result (log.new ≡ record log.old { place = log.new.place; length = log.new.length; ended = true }) }
-    ensures any_moment { S.told → LeavesOnly S.moment S.left_since site.old site.new (After log.old.file SameLog (S.may_leave site.old)) }
-    ensures damaged { S.told → (at : ℕ) → IsErrOf result (LogError.Damaged at) → DamagedBehind (bytes_of log.old.file (S.shown site.old)) log.old.place at }
-    ensures not_made { ¬ IsErrOf result LogError.NotMade }
-    ensures cause { HasCause (S.faults site.old) (S.faults site.new) (IsErrOf result LogError.SiteFault) }
+    requires stands { LogStands S.Site log.old site.old }
+    ensures all { ReadsAll S.Site result log.old site.old log.new }
+    ensures reads { ReadsOn S.Site (DamagedBehind (bytes_of log.old.file (S.shown site.old)) log.old.place)
+        result log.old site.old log.new site.new }
 {
     let mut read = Vec::new(alloc);
     while let Some(group) = log.next_group(alloc, site)? {
@@ -48,7 +42,7 @@ pub fn read_to_end<S: Site>(
 /// opened again and read to its end. Read are the groups that the log had, in their order, and this one behind them,
 /// each whole.
 ///
-/// The log is one with this header, and nothing waits in it. There is at least one entry, none is empty, and there is
+/// The log is one with this header that was opened behind it, and nothing waits in it. There is at least one entry, none is empty, and there is
 /// room for them, within 33,554,432 bytes. On `Ok` the log is the one that was opened again, at its end. Where the
 /// groups that the log had are lists of entries, an error is `SiteFault`, only where the site's count of faults rose,
 /// or want of memory.
@@ -59,22 +53,10 @@ pub fn force_and_read<S: Site>(
     header: &[u8; 16],
     entries: &[Word],
 ) -> Result<Vec<Group>, LogError>
-    requires stands { Stands S.told (S.shown site.old) (S.may_leave site.old) log.old }
-    requires header { S.told → take 16 (bytes_of log.old.file (S.shown site.old)) ≡ header.now }
-    requires ended { log.old.ended ≡ true }
-    requires waits { log.old.payload ≡ [] }
-    requires any { 1 ≤ length entries.now }
-    requires some { All (λ e. 1 ≤ length e) entries.now }
-    requires room { length (flat_map entry entries.now) ≤ log.old.spare }
-    requires fits { length (flat_map entry entries.now) ≤ 33554432 }
-    ensures read { S.told → (before : List (List (List ℕ))) → Spelled (groups (bytes_of log.old.file (S.shown site.old))) before → IfOk result (λ v. map (λ group. map (λ e. e.bytes) group.entries) v.items ≡ before ++ entries.now ∷ []) }
-    ensures whole { S.told → OnOk result (Whole (flat_map entry entries.now) (bytes_of log.old.file (S.shown site.old)) (bytes_of log.old.file (S.shown site.new))) }
-    ensures others { S.told → OnOk result (S.shown site.new ≡ with_bytes log.old.file (bytes_of log.old.file (S.shown site.new)) (S.shown site.old)) }
-    ensures log { OnOk result (log.new ≡ record log.old { place = log.new.place; length = log.new.length; spare = 0 }) }
-    ensures stands { OnOk result (Stands S.told (S.shown site.new) (S.may_leave site.new) log.new) }
-    ensures not_damaged { S.told → (before : List (List (List ℕ))) → Spelled (groups (bytes_of log.old.file (S.shown site.old))) before → (at : ℕ) → ¬ IsErrOf result (LogError.Damaged at) }
-    ensures not_made { S.told → ¬ IsErrOf result LogError.NotMade }
-    ensures cause { HasCause (S.faults site.old) (S.faults site.new) (IsErrOf result LogError.SiteFault) }
+    requires stands { LogStands S.Site log.old site.old }
+    requires header { S.told → HasHeader header.now (bytes_of log.old.file (S.shown site.old)) }
+    requires can { CanForce log.old entries.now }
+    ensures { ReadsBack S.Site entries.now result log.old site.old log.new site.new }
 {
     stage_all(log, entries);
     log.force(site)?;

@@ -43,6 +43,8 @@ impl Faults {
 pub struct Untold<S> {
     inner: S,
     faults: Faults,
+    // How many of a gate's five bytes a read gives.
+    of_gate: usize,
 }
 
 impl<S> Untold<S> {
@@ -51,9 +53,18 @@ impl<S> Untold<S> {
         ensures inner { result.inner ≡ inner }
         ensures faults { result.faults.count ≡ 0 }
     {
+        Untold::short(inner, 5)
+    }
+
+    /// Over this site, and of five bytes that are read it gives at most so many.
+    pub fn short(inner: S, of_gate: usize) -> Untold<S>
+        ensures inner { result.inner ≡ inner }
+        ensures faults { result.faults.count ≡ 0 }
+    {
         Untold {
             inner,
             faults: Faults { count: 0 },
+            of_gate,
         }
     }
 
@@ -95,6 +106,7 @@ impl<S: Site> Site for Untold<S> {
 
     fn read(&mut self, file: SiteFile, at: u64, into: &mut [u8]) -> Result<usize, Failed> {
         match self.inner.read(file, at, into) {
+            Ok(count) if into.len() == 5 => Ok(count.min(self.of_gate)),
             Ok(count) => Ok(count),
             Err(Failed) => Err(self.faults.one_more()),
         }

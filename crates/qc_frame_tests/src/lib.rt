@@ -8,10 +8,11 @@ ghost use Rattle.std.specs.Prelude.{◌≡◌, ◌≤◌, ◌+◌, ◌++◌, ℕ
 ghost use Rattle.qc_base.specs.Spelling.{spelled_fact, is_fact};
 ghost use Rattle.qc_site.specs.Causes.{HasCause};
 ghost use Rattle.qc_site.specs.declared.site.SiteFile.TheVariants.{Journal as the_file};
-ghost use Rattle.qc_frame.specs.Frame.{groups};
-ghost use Rattle.qc_frame.specs.Log.{Stands, Spelled, SameLog};
+ghost use Rattle.qc_frame.specs.Frame.{groups, HasHeader};
+ghost use Rattle.qc_frame.specs.Log.{Spelled, SameLog};
+ghost use Rattle.qc_frame.specs.Calls.{LogStands, entries_read};
 ghost use Rattle.qc_journal.specs.History.{journal_header};
-ghost use Rattle.qc_journal.specs.Journal.{JournalStands};
+ghost use Rattle.qc_journal.specs.Journal.{log_of};
 
 mod adapter;
 
@@ -26,9 +27,10 @@ const HEADER: [u8; 16] = *b"QC-JOURNAL-0001\n";
 
 /// Opens the log in the journal's file and reads it to its end.
 pub fn open_at_end<S: Site>(alloc: Global, site: &mut S) -> Result<(Log, Vec<Group>), LogError>
-    ensures stands { IfOk result (λ r. Stands S.told (S.shown site.new) (S.may_leave site.new) r.0) }
-    ensures ended { IfOk result (λ r. (r.0.file ≡ the_file) × (r.0.ended ≡ true) × (r.0.payload ≡ [])) }
-    ensures header { S.told → OnOk result (take 16 (S.shown site.old).journal ≡ journal_header) }
+    ensures stands { IfOk result (λ r. LogStands S.Site r.0 site.new) }
+    ensures whole { IfOk result (λ r. (r.0.file ≡ the_file) × (r.0.start ≡ 16)) }
+    ensures ended { IfOk result (λ r. (r.0.ended ≡ true) × (r.0.payload ≡ [])) }
+    ensures header { S.told → OnOk result (HasHeader journal_header (S.shown site.old).journal) }
     ensures same { S.told → OnOk result (SameLog (S.shown site.old).journal (S.shown site.new).journal) }
     ensures cause { HasCause (S.faults site.old) (S.faults site.new) (IsErrOf result LogError.SiteFault) }
 {
@@ -44,12 +46,11 @@ pub fn add<S: Site>(
     site: &mut S,
     bytes: &[u8],
 ) -> Result<(), LogError>
-    requires stands { Stands S.told (S.shown site.old) (S.may_leave site.old) log.old }
+    requires stands { LogStands S.Site log.old site.old }
     requires ended { log.old.ended ≡ true }
     requires waits { log.old.payload ≡ [] }
-    requires some { 1 ≤ length bytes.now }
-    requires fits { length bytes.now ≤ 1000 }
-    ensures stands { OnOk result (Stands S.told (S.shown site.new) (S.may_leave site.new) log.new) }
+    requires sized { (1 ≤ length bytes.now) × (length bytes.now ≤ 1000) }
+    ensures stands { OnOk result (LogStands S.Site log.new site.new) }
     ensures ended { OnOk result ((log.new.ended ≡ true) × (log.new.payload ≡ [])) }
 {
     log.reserve(alloc, bytes.len() + 4)?;
@@ -67,7 +68,8 @@ pub fn add_and_read<S: Site>(
 ) -> Result<Vec<Group>, LogError>
     requires some { (1 ≤ length first.now) × (1 ≤ length second.now) }
     requires fit { (length first.now ≤ 1000) × (length second.now ≤ 1000) }
-    ensures read { S.told → (before : List (List (List ℕ))) → Spelled (groups (S.shown site.old).journal) before → IfOk result (λ v. map (λ group. map (λ e. e.bytes) group.entries) v.items ≡ before ++ (first.now ∷ second.now ∷ []) ∷ []) }
+    ensures read { S.told → (before : List (List (List ℕ))) → Spelled (groups (S.shown site.old).journal) before
+        → IfOk result (λ v. entries_read v.items ≡ before ++ (first.now ∷ second.now ∷ []) ∷ []) }
     ensures cause { HasCause (S.faults site.old) (S.faults site.new) (IsErrOf result LogError.SiteFault) }
 {
     let (mut log, _) = open_at_end(alloc, site)?;
@@ -83,7 +85,7 @@ pub fn journal_at_end<S: Site>(
     alloc: Global,
     site: &mut S,
 ) -> Result<(Journal, Vec<(u64, Fact)>), LogError>
-    ensures stands { IfOk result (λ r. JournalStands S.told (S.shown site.new) (S.may_leave site.new) r.0) }
+    ensures stands { IfOk result (λ r. LogStands S.Site (log_of r.0) site.new) }
     ensures ended { IfOk result (λ r. r.0.ended ≡ true) }
 {
     let mut journal = Journal::open(alloc, site)?;
@@ -103,10 +105,10 @@ pub fn append<S: Site>(
     site: &mut S,
     fact: &Fact,
 ) -> Result<(), LogError>
-    requires stands { JournalStands S.told (S.shown site.old) (S.may_leave site.old) journal.old }
+    requires stands { LogStands S.Site (log_of journal.old) site.old }
     requires ended { journal.old.ended ≡ true }
     requires limits { is_fact fact.now ≡ true }
-    ensures stands { OnOk result (JournalStands S.told (S.shown site.new) (S.may_leave site.new) journal.new) }
+    ensures stands { OnOk result (LogStands S.Site (log_of journal.new) site.new) }
     ensures ended { OnOk result (journal.new.ended ≡ true) }
 {
     journal.reserve(alloc, size_of_fact(fact) + 4)?;

@@ -28,23 +28,41 @@ const MOVED: [u8; 27] =
 // Switched of Orders on at moment 0.
 const SWITCHED: [u8; 17] = *b"\x06\x06Orders\x01\x00\x00\x00\x00\x00\x00\x00\x00";
 
-// How many groups the image has, or 9 where it has no log.
-fn groups_in(alloc: Global, site: &MemSite, choice: Choice) -> Result<usize, Fail> {
-    let mut image = site.crash_image(alloc, choice)?;
-    match open_at_end(alloc, &mut image) {
-        Ok((_, groups)) => Ok(groups.len()),
-        Err(LogError::NotMade) => Ok(9),
+// The bytes of each entry with a `,` behind it, and of each group with a `;`, as a copy of the group has them.
+fn add_text(alloc: Global, text: &mut Vec<u8>, groups: &[Group]) -> Result<(), Fail> {
+    for group in groups {
+        let copied = group.copy(alloc)?;
+        for entry in copied.entries.as_slice() {
+            text.extend_from_slice(entry.bytes.as_slice())?;
+            text.push(b',')?;
+        }
+        text.push(b';')?;
+    }
+    Ok(())
+}
+
+// The groups of a log, or None where there is no log.
+fn groups_of(alloc: Global, image: &mut MemSite) -> Result<Option<Vec<Group>>, Fail> {
+    match open_at_end(alloc, image) {
+        Ok((_, groups)) => Ok(Some(groups)),
+        Err(LogError::NotMade) => Ok(None),
         Err(e) => Err(e)?,
     }
 }
 
-// What the three kinds of image have.
-fn groups_in_each(alloc: Global, site: &MemSite) -> Result<[usize; 3], Fail> {
-    Ok([
-        groups_in(alloc, site, Choice::Old)?,
-        groups_in(alloc, site, Choice::New)?,
-        groups_in(alloc, site, Choice::Flip)?,
-    ])
+// What the three kinds of image have, each with a `|` behind it, and a `-` where there is no log.
+fn text_of_images(alloc: Global, site: &MemSite) -> Result<Vec<u8>, Fail> {
+    let mut text = Vec::new(alloc);
+    for choice in [Choice::Old, Choice::New, Choice::Flip] {
+        let mut image = site.crash_image(alloc, choice)?;
+        let groups = groups_of(alloc, &mut image)?;
+        match &groups {
+            Some(groups) => add_text(alloc, &mut text, groups)?,
+            None => text.push(b'-')?,
+        }
+        text.push(b'|')?;
+    }
+    Ok(text)
 }
 
 fn stop_at(alloc: Global, kind: CallKind, nth: u32) -> Result<Vec<Trip>, Fail> {
@@ -67,12 +85,12 @@ fn site_with_a_group(alloc: Global) -> Result<MemSite, Fail> {
 }
 
 // The images where the force of a second group stops at this call. Opening makes the first sync.
-fn force_stopped(alloc: Global, kind: CallKind, nth: u32) -> Result<[usize; 3], Fail> {
+fn force_stopped(alloc: Global, kind: CallKind, nth: u32) -> Result<Vec<u8>, Fail> {
     let mut site = site_with_a_group(alloc)?;
     site.set_plan(stop_at(alloc, kind, nth)?);
     let (mut log, _) = open_at_end(alloc, &mut site)?;
     let _ = add(alloc, &mut log, &mut site, b"two and more");
-    groups_in_each(alloc, &site)
+    text_of_images(alloc, &site)
 }
 
 #[test]
@@ -81,14 +99,21 @@ fn a_force_that_is_stopped_leaves_the_group_whole_or_not_at_all(
 ) -> Result<(), Fail> {
     let alloc = rt.alloc();
     let table = [
-        (CallKind::Write(FILE), 1, [1, 1, 1]),
-        (CallKind::Sync(FILE), 2, [1, 1, 1]),
-        (CallKind::Write(FILE), 2, [1, 1, 1]),
-        (CallKind::Sync(FILE), 3, [1, 2, 1]),
-        (CallKind::RowPut, 1, [2, 2, 2]),
+        (CallKind::Write(FILE), 1, "one,;|one,;|one,;|"),
+        (CallKind::Sync(FILE), 2, "one,;|one,;|one,;|"),
+        (CallKind::Write(FILE), 2, "one,;|one,;|one,;|"),
+        (CallKind::Sync(FILE), 3, "one,;|one,;two and more,;|one,;|"),
+        (
+            CallKind::RowPut,
+            1,
+            "one,;two and more,;|one,;two and more,;|one,;two and more,;|",
+        ),
     ];
-    for (kind, nth, groups) in table {
-        assert_eq!(rt; force_stopped(alloc, kind, nth)?, groups);
+    for (kind, nth, text) in table {
+        assert_eq!(rt;
+            force_stopped(alloc, kind, nth)?.as_slice(),
+            text.as_bytes()
+        );
     }
     Ok(())
 }
@@ -99,7 +124,7 @@ fn opening_stopped(
     missing: bool,
     kind: CallKind,
     nth: u32,
-) -> Result<[usize; 3], Fail> {
+) -> Result<Vec<u8>, Fail> {
     let mut site = site_with_a_group(alloc)?;
     let end = site.len(FILE)?.checked_sub(1).ok_or("an empty file")?;
     if missing {
@@ -110,7 +135,7 @@ fn opening_stopped(
     site.sync(FILE)?;
     site.set_plan(stop_at(alloc, kind, nth)?);
     let _ = open_at_end(alloc, &mut site);
-    groups_in_each(alloc, &site)
+    text_of_images(alloc, &site)
 }
 
 #[test]
@@ -123,37 +148,42 @@ fn closing_the_end_gate_keeps_the_groups(rt: HostRuntime) -> Result<(), Fail> {
         (CallKind::RowPut, 1),
     ];
     for (kind, nth) in table {
-        assert_eq!(rt; opening_stopped(alloc, false, kind, nth)?, [1, 1, 1]);
+        let text = opening_stopped(alloc, false, kind, nth)?;
+        assert_eq!(rt; text.as_slice(), b"one,;|one,;|one,;|".as_slice());
     }
     // without a byte behind it the group doesn't count
     for (kind, nth) in table {
-        assert_eq!(rt; opening_stopped(alloc, true, kind, nth)?, [0, 0, 0]);
+        let text = opening_stopped(alloc, true, kind, nth)?;
+        assert_eq!(rt; text.as_slice(), b"|||".as_slice());
     }
     Ok(())
 }
 
 // The images where making a log on an empty site stops at this call.
-fn making_stopped(alloc: Global, kind: CallKind, nth: u32) -> Result<[usize; 3], Fail> {
+fn making_stopped(alloc: Global, kind: CallKind, nth: u32) -> Result<Vec<u8>, Fail> {
     let mut site = MemSite::make(alloc)?;
     site.set_plan(stop_at(alloc, kind, nth)?);
     let _ = Log::make(&mut site, FILE, &HEADER);
-    groups_in_each(alloc, &site)
+    text_of_images(alloc, &site)
 }
 
 #[test]
 fn a_log_is_made_or_it_isnt(rt: HostRuntime) -> Result<(), Fail> {
     let alloc = rt.alloc();
     let table = [
-        (CallKind::Cut(FILE), 1, [9, 9, 9]),
-        (CallKind::Sync(FILE), 1, [9, 9, 9]),
-        (CallKind::Write(FILE), 1, [9, 9, 9]),
-        (CallKind::Sync(FILE), 2, [9, 9, 9]),
-        (CallKind::Write(FILE), 2, [9, 9, 9]),
-        (CallKind::Sync(FILE), 3, [9, 0, 9]),
-        (CallKind::RowPut, 1, [0, 0, 0]),
+        (CallKind::Cut(FILE), 1, "-|-|-|"),
+        (CallKind::Sync(FILE), 1, "-|-|-|"),
+        (CallKind::Write(FILE), 1, "-|-|-|"),
+        (CallKind::Sync(FILE), 2, "-|-|-|"),
+        (CallKind::Write(FILE), 2, "-|-|-|"),
+        (CallKind::Sync(FILE), 3, "-||-|"),
+        (CallKind::RowPut, 1, "|||"),
     ];
-    for (kind, nth, groups) in table {
-        assert_eq!(rt; making_stopped(alloc, kind, nth)?, groups);
+    for (kind, nth, text) in table {
+        assert_eq!(rt;
+            making_stopped(alloc, kind, nth)?.as_slice(),
+            text.as_bytes()
+        );
     }
     Ok(())
 }
@@ -297,26 +327,14 @@ fn damage_is_named_by_its_entry(rt: HostRuntime) -> Result<(), Fail> {
     Ok(())
 }
 
-// The bytes of each entry with a `,` behind it, and of each group with a `;`, as a copy of the group has them.
-fn text_of(alloc: Global, groups: &[Group]) -> Result<Vec<u8>, Fail> {
-    let mut text = Vec::new(alloc);
-    for group in groups {
-        let copied = group.copy(alloc)?;
-        for entry in copied.entries.as_slice() {
-            text.extend_from_slice(entry.bytes.as_slice())?;
-            text.push(b',')?;
-        }
-        text.push(b';')?;
-    }
-    Ok(text)
-}
-
 // Makes a log over this site, and adds two groups to it.
 fn made_and_read<S: Site>(alloc: Global, site: &mut S) -> Result<Vec<u8>, Fail> {
     Log::make(site, FILE, &HEADER)?;
     add_and_read(alloc, site, b"one", b"two and more")?;
     let groups = add_and_read(alloc, site, b"three", b"4")?;
-    text_of(alloc, &groups)
+    let mut text = Vec::new(alloc);
+    add_text(alloc, &mut text, &groups)?;
+    Ok(text)
 }
 
 #[test]
@@ -372,5 +390,17 @@ fn an_untold_site_counts_its_faults(rt: HostRuntime) -> Result<(), Fail> {
         );
     }
     assert_eq!(rt; untold_stopped(alloc, CallKind::RowPut, 1)?, (None, 0));
+    Ok(())
+}
+
+#[test]
+fn a_gate_that_is_not_given_is_left_alone(rt: HostRuntime) -> Result<(), Fail> {
+    let alloc = rt.alloc();
+    let mut inner = site_with_a_group(alloc)?;
+    inner.set_plan(stop_at(alloc, CallKind::Write(FILE), 1)?);
+    let mut site = Untold::short(inner, 0);
+    let (_, groups) = open_at_end(alloc, &mut site)?;
+    assert_eq!(rt; groups.len(), 0);
+    assert_eq!(rt; site.faults(), 0);
     Ok(())
 }

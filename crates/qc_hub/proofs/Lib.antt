@@ -1,8 +1,16 @@
 pub mod Sizes
-pub mod Histories
 pub mod Added
+pub mod Later
+pub mod Logs
+pub mod Rooms
+pub mod Calling
+pub mod Queued
 pub mod OpeningFacts
-pub mod OpeningStates
-pub mod Sending
-pub mod Steps
-mod Rules
+pub mod OpeningTaken
+pub mod OpeningRead
+pub mod OpeningErrors
+pub mod OpeningSteps
+pub mod OpeningRuns
+pub mod OpeningLog
+pub mod OpeningExits
+pub mod OpeningLogs

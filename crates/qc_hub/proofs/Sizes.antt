@@ -6,10 +6,10 @@ use Rattle.qc_base.specs.Names.{is_name, is_text, is_letter, is_name_byte}
 use Rattle.qc_base.specs.Spelling.{spelled_arg, spelled_call, spelled_recording, short_bytes, eight_bytes}
 use Rattle.qc_base.specs.declared.recording.Arg.{Arg}
 use Rattle.qc_base.specs.declared.recording.Call.{Call}
-use Rattle.qc_base.specs.declared.order.RawArg.{RawArg}
-use Rattle.qc_base.specs.declared.order.RawArg.TheVariants.{Text, Whole, Other}
-use Rattle.qc_base.specs.declared.order.RawCall.{RawCall}
-use Rattle.qc_hub.specs.Recorded.{arg_fits, arg_recorded, call_fits, call_recorded}
+use Rattle.qc_protocol.specs.declared.order.RawArg.{RawArg}
+use Rattle.qc_protocol.specs.declared.order.RawArg.TheVariants.{Text, Whole, Other}
+use Rattle.qc_protocol.specs.declared.order.RawCall.{RawCall}
+use Rattle.qc_machine.specs.Recorded.{arg_fits, arg_recorded, call_fits, call_recorded}
 
 pub and-left : (a b : Bool) → (a && b) ≡ true → a ≡ true
 and-left true b h = refl

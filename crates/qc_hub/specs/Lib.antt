@@ -1,7 +1,3 @@
-pub mod Recorded
-pub mod State
-pub mod Refuse
-pub mod Step
-pub mod Sites
-pub mod Stands
+pub mod Calls
 pub mod Opening
+pub mod Stands

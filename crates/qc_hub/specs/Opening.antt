@@ -1,90 +1,146 @@
--- What opening reads of a journal, and where it stops.
-use Rattle.std.specs.Prelude.{◌≡◌, ◌≤◌, ◌⊎◌, ℕ, ◌+◌, max, List, [], ◌∷◌, ◌++◌, length, map, sum_by, true, false}
-use Rattle.std.specs.List.{list_all}
+-- How far an opening has come.
+use Rattle.std.specs.Prelude.{◌≡◌, ◌≢◌, ◌⊎◌, ℕ, ◌+◌, nat_le, Bool, ◌&&◌, ◌==◌, List, [], ◌∷◌, ◌++◌, length, true, false, IfOk, OnOk, OnErr, IsErr, IsErrOf, Err}
+use Rattle.std.specs.declared.result.Result.{Result}
 use Rattle.qc_base.specs.declared.fact.Fact.{Fact}
-use Rattle.qc_base.specs.declared.fact.Fact.TheVariants.{Sent}
-use Rattle.qc_base.specs.declared.recording.Recording.{Recording}
-use Rattle.qc_base.specs.Spelling.{is_fact}
-use Rattle.qc_base.specs.Messages.{after_sent}
-use Rattle.qc_base.specs.History.{history_of, may_follow, is_legal}
-use Rattle.qc_site.specs.Disk.{written}
-use Rattle.qc_site.specs.declared.site.SiteFile.TheVariants.{Journal}
+use Rattle.qc_site.specs.declared.site.Site.{Ghosts}
+use Rattle.qc_site.specs.declared.site.SiteFile.TheVariants.{Journal, CrmLog}
+use Rattle.qc_site.specs.Image.{Image, with_bytes}
 use Rattle.qc_frame.specs.declared.error.LogError.{LogError}
 use Rattle.qc_frame.specs.declared.error.LogError.TheVariants.{SiteFault, NotMade, Damaged, NoMemory}
+use Rattle.qc_frame.specs.Calls.{LogStands, WritesNothing, KeepsGroups}
 use Rattle.qc_frame.specs.Frame.{groups}
-use Rattle.qc_frame.specs.Log.{groups_at, SameLog}
-use Rattle.qc_journal.specs.History.{SpellsHistory, fact_payload}
-use Rattle.qc_journal.specs.Journal.{DamagedFact}
-use Rattle.qc_hub.specs.declared.error.OpenError.{OpenError}
-use Rattle.qc_hub.specs.declared.error.OpenError.TheVariants.{SiteFault as site_fault, NotMade as not_made, Damaged as damaged, NoMemory as no_memory}
+use Rattle.qc_frame.specs.Log.{SameLog, just_opened}
+use Rattle.qc_journal.specs.History.{SpellsHistory}
+use Rattle.qc_journal.specs.Journal.{log_of, journal_opened}
+use Rattle.qc_frame.specs.declared.error.Damage.{Damage}
+use Rattle.qc_catalogue.specs.declared.error.CatalogueError.{CatalogueError}
+use Rattle.qc_catalogue.specs.declared.error.CatalogueError.TheVariants.{NoMemory as OutOfMemory}
+use Rattle.qc_machine.specs.declared.error.OpenError.{OpenError}
+use Rattle.qc_machine.specs.declared.error.OpenError.TheVariants.{SiteFault as site_fault, NotMade as not_made, NoCatalogue as no_first, Damaged as damaged, NoMemory as no_memory}
+use Rattle.qc_machine.specs.declared.limits.Limits.{Limits}
+use Rattle.qc_machine.specs.History.{by_text, no_facts, history_of, goes_on, all_follow}
+use Rattle.qc_machine.specs.Opening.{DamagedJournal}
+use Rattle.qc_machine.specs.Sites.{HasHeaders, file_end}
 use Rattle.qc_hub.specs.declared.hub.Hub.{Hub}
-use Rattle.qc_hub.specs.Sites.{end_gate}
+use Rattle.qc_hub.specs.Calls.{with_closed_gate, with_closed_journal}
+use Rattle.qc_hub.specs.Stands.{AreNumbered}
 
--- why a site can't be opened where its journal can't be read on
-abbrev pub open_error : LogError → OpenError
-open_error SiteFault = site_fault
-open_error NotMade = not_made
-open_error (Damaged at) = damaged (record { file = Journal; at = at })
-open_error NoMemory = no_memory
+-- an entry of the journal
+abbrev pub damage_at : ℕ → Damage
+damage_at at = record { file = Journal; at = at }
 
--- the groups up to a place spell these facts, each of which may follow those before it
-pub record LegalFront (file : List ℕ) (place : ℕ) (facts : List Fact) : Type 0 where
-  pub spelled : groups file ≡ map fact_payload facts ++ groups_at file place
-  pub limits : list_all is_fact facts ≡ true
-  pub legal : is_legal facts ≡ true
-  pub reached : place ≡ 16 + sum_by (λ payload. 5 + length payload) (map fact_payload facts)
+-- the first entry of the log of compensations
+abbrev pub log_used : Damage
+log_used = record { file = CrmLog; at = 21 }
 
--- the fact at a place may not follow these, and its entry has this offset
-pub record NotNext (file : List ℕ) (place at : ℕ) (facts : List Fact) : Type 0 where
-  pub fact : Fact
-  pub rest : List (List ℕ)
-  pub next : groups_at file place ≡ fact_payload fact ∷ rest
-  pub limits : is_fact fact ≡ true
-  pub refused : may_follow (history_of facts) fact ≡ false
-  pub here : at ≡ place + 5
+-- why a site can't be opened where one of its logs can't be read on, by where the damage counts
+abbrev pub as_open_error : (ℕ → Damage) → LogError → OpenError
+as_open_error place SiteFault = site_fault
+as_open_error place NotMade = not_made
+as_open_error place (Damaged at) = damaged (place at)
+as_open_error place NoMemory = no_memory
 
--- The first group that doesn't go on with the history is no fact, or one that may not follow. At this offset stands
--- the entry that doesn't fit.
-pub record DamagedAt (file : List ℕ) (at : ℕ) : Type 0 where
-  pub facts : List Fact
-  pub place : ℕ
-  pub front : LegalFront file place facts
-  pub unfit : DamagedFact file place at ⊎ NotNext file place at facts
+abbrev pub in_journal : LogError → OpenError
+in_journal = as_open_error damage_at
 
--- a hub that hasn't read a fact
-pub record IsUnread (hub : Hub) : Type 0 where
-  pub place : hub.journal.place ≡ 16
-  pub messages : hub.store.messages ≡ []
-  pub last : hub.last ≡ 0
+-- each group of the log of compensations is one too many
+abbrev pub in_log : LogError → OpenError
+in_log = as_open_error (λ at. log_used)
 
--- the hub goes on with a fact
-pub record Takes (fact : Fact) (old new : Hub) : Type 0 where
-  pub id : ℕ
-  pub at : ℕ
-  pub recording : Recording
-  pub is : fact ≡ Sent id at recording
-  pub next : id ≡ length old.store.messages + 1
-  pub later : old.last ≤ at
-  pub messages : new.store.messages ≡ after_sent id recording false at old.store.messages
-  pub last : new.last ≡ at
+-- a text that is no catalogue damages the entry at this offset
+abbrev pub in_catalogue : ℕ → CatalogueError → OpenError
+in_catalogue at OutOfMemory = no_memory
+in_catalogue at _ = damaged (damage_at at)
 
 -- the hub has what these facts settle
-pub record HasSettled (facts : List Fact) (hub : Hub) : Type 0 where
-  pub messages : hub.store.messages ≡ (history_of facts).messages
-  pub last : hub.last ≡ (history_of facts).last
+pub record HasFacts (facts : List Fact) (hub : Hub) : Type 0 where
+  pub catalogue : hub.catalogue ≡ (history_of by_text facts).catalogue
+  pub messages : hub.store.messages ≡ (history_of by_text facts).messages
+  pub counted : hub.facts ≡ length facts
+  pub last : hub.last ≡ (history_of by_text facts).last
 
--- the file with a byte 0 as its end gate, and all else as it was
-abbrev pub with_closed_gate : List ℕ → List ℕ
-with_closed_gate file = written file (end_gate file) (0 ∷ [])
+-- a hub that stands before the first groups of its logs
+pub record IsUnread (limits : Limits) (hub : Hub) : Type 0 where
+  pub journal : hub.journal ≡ journal_opened hub.journal.length
+  pub log : hub.log ≡ just_opened CrmLog 16 hub.log.length
+  pub none : HasFacts [] hub
+  pub limited : hub.limits ≡ limits
+  pub in_fault : hub.in_fault ≡ false
 
--- the hub has read the whole file, whose end gate was closed
-pub record HasRead (file now : List ℕ) (hub : Hub) : Type 0 where
-  pub facts : List Fact
-  pub spelled : SpellsHistory file facts
-  pub legal : is_legal facts ≡ true
-  pub settled : HasSettled facts hub
+-- whether a fact goes on with the history of these
+abbrev pub follows : List Fact → Fact → Bool
+follows facts fact = goes_on by_text (history_of by_text facts) fact
+
+-- whether a message is sent next with this id and at this moment, by what a hub has
+abbrev pub is_sent_next : Hub → ℕ → ℕ → Bool
+is_sent_next hub id at = (nat_le 1 hub.facts && nat_le hub.last at) && (id == length hub.store.messages + 1)
+
+-- damage at this offset is told of a fact that doesn't follow those that the hub has
+abbrev pub IsRefused : ℕ → Fact → Result (Unit {0}) OpenError → Hub → Type 0
+IsRefused at fact result hub = (result ≡ Err (damaged (damage_at at))) × ((facts : List Fact) → HasFacts facts hub → follows facts fact ≡ false)
+
+-- A hub goes on with a fact, whose entry has this offset, where it may follow those before it.
+pub record TakesFact (at : ℕ) (fact : Fact) (result : Result (Unit {0}) OpenError) (hub new : Hub) : Type 0 where
+  pub taken : OnOk result ((facts : List Fact) → HasFacts facts hub → (follows facts fact ≡ true) × HasFacts (facts ++ fact ∷ []) new)
+  pub refused : OnErr result ((result ≡ Err no_memory) ⊎ IsRefused at fact result hub)
+  pub counted : OnOk result (new.facts ≡ hub.facts + 1)
+  pub numbered : OnOk result (AreNumbered new.store.messages)
+  pub kept : new ≡ record hub { catalogue = new.catalogue; store = new.store; facts = new.facts; last = new.last }
+
+-- a log was read to its end, where its gate is closed, and stands there
+pub record HasEnded (file now : List ℕ) (place size : ℕ) : Type 0 where
   pub same : SameLog file now
-  pub gate : hub.journal.place ≡ end_gate file
-  pub end : hub.journal.length ≡ length now
-  pub closed : now ≡ with_closed_gate file
-  pub size : length now ≡ max (length file) (end_gate file + 1)
+  pub end : file_end file ≡ record { gate = place; size = size }
+  pub end_now : file_end now ≡ record { gate = place; size = size }
+
+-- the hub has read the whole journal, and has what its facts settle
+pub record HasRead (before now : Image) (hub : Hub) : Type 0 where
+  pub facts : List Fact
+  pub spelled : SpellsHistory before.journal facts
+  pub follow : all_follow by_text no_facts facts ≡ true
+  pub has : HasFacts facts hub
+  pub closed : now ≡ with_closed_journal before
+  pub ended : HasEnded before.journal now.journal hub.journal.place hub.journal.length
+
+-- the hub has found the log of compensations without groups
+pub record HasReadLog (before now : Image) (hub : Hub) : Type 0 where
+  pub none : groups before.crm_log ≡ []
+  pub closed : now ≡ with_bytes CrmLog (with_closed_gate before.crm_log) before
+  pub ended : HasEnded before.crm_log now.crm_log hub.log.place hub.log.length
+
+module _ {S : Type 0} (g : Ghosts S) where
+  -- A call that opens both logs, and gives a hub before the first groups.
+  pub record FindsLogs (limits : Limits) (result : Result Hub OpenError) (site after : S) : Type 0 where
+    pub unread : IfOk result (IsUnread limits)
+    pub journal : IfOk result (λ hub. LogStands g (log_of hub.journal) after)
+    pub log : IfOk result (λ hub. LogStands g hub.log after)
+    pub headers : g.told → OnOk result (HasHeaders (g.shown site))
+    pub not_made : g.told → IsErrOf result not_made → ¬ HasHeaders (g.shown site)
+    pub not_empty : ¬ IsErrOf result no_first
+    pub not_damaged : (d : Damage) → ¬ IsErrOf result (damaged d)
+    pub writes : WritesNothing g (IsErrOf result site_fault) site after
+
+  -- A call that reads the journal to its end.
+  pub record ReadsFacts (result : Result (Unit {0}) OpenError) (hub : Hub) (site : S) (new : Hub) (after : S) : Type 0 where
+    pub kept : new ≡ record hub { journal = new.journal; catalogue = new.catalogue; store = new.store; facts = new.facts; last = new.last }
+    pub journal : OnOk result (new.journal ≡ record hub.journal { place = new.journal.place; length = new.journal.length; ended = true })
+    pub stands : OnOk result (LogStands g (log_of new.journal) after)
+    pub numbered : OnOk result (AreNumbered new.store.messages)
+    pub read : g.told → OnOk result (HasRead (g.shown site) (g.shown after) new)
+    pub damaged : g.told → (d : Damage) → IsErrOf result (damaged d) → (d.file ≡ Journal) × DamagedJournal (g.shown site).journal d.at
+    pub not_made : ¬ IsErrOf result not_made
+    pub not_empty : ¬ IsErrOf result no_first
+    pub unchanged : g.told → IsErr result → ¬ IsErrOf result site_fault → g.shown after ≡ g.shown site
+    pub keeps : KeepsGroups g (log_of hub.journal) (IsErrOf result site_fault) site after
+
+  -- A call that reads the log of compensations, which is at its end.
+  pub record FindsNoLine (result : Result (Unit {0}) OpenError) (hub : Hub) (site : S) (new : Hub) (after : S) : Type 0 where
+    pub kept : new ≡ record hub { log = new.log }
+    pub log : OnOk result (new.log ≡ record hub.log { length = new.log.length; ended = true })
+    pub stands : OnOk result (LogStands g new.log after)
+    pub read : g.told → OnOk result (HasReadLog (g.shown site) (g.shown after) new)
+    pub damaged : g.told → (d : Damage) → IsErrOf result (damaged d) → (d ≡ log_used) × (groups (g.shown site).crm_log ≢ [])
+    pub not_made : ¬ IsErrOf result not_made
+    pub not_empty : ¬ IsErrOf result no_first
+    pub unchanged : g.told → IsErr result → ¬ IsErrOf result site_fault → g.shown after ≡ g.shown site
+    pub keeps : KeepsGroups g hub.log (IsErrOf result site_fault) site after

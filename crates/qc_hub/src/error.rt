@@ -1,25 +1,8 @@
 // What a hub answers where it can't go on.
+ghost use Rattle.std.specs.Prelude.{◌≡◌};
+
 use qc_base::NoMemory;
-use qc_site::{Failed, SiteFile};
-
-/// The first entry of a file that spells nothing, or doesn't follow from those before, by the offset of its length.
-#[derive(Clone, Copy, Debug, PartialEq, Eq)]
-pub struct Damage {
-    pub file: SiteFile,
-    /// In bytes from the start of the file.
-    pub at: u64,
-}
-
-/// Why a site can't be opened.
-#[derive(Clone, Copy, Debug, PartialEq, Eq)]
-pub enum OpenError {
-    /// A call of the site failed, and its count of faults rose.
-    SiteFault,
-    /// The journal's header isn't the journal's.
-    NotMade,
-    Damaged(Damage),
-    NoMemory,
-}
+use qc_site::Failed;
 
 /// Why an order has no reply.
 #[derive(Clone, Copy, Debug, PartialEq, Eq)]
@@ -28,6 +11,15 @@ pub enum HubError {
     SiteFault,
     /// Nothing changed but the last moment seen.
     NoMemory,
+}
+
+impl HubError {
+    /// The same value again.
+    pub fn copy(&self) -> HubError
+        ensures { result ≡ self.now }
+    {
+        *self
+    }
 }
 
 impl From<Failed> for HubError {

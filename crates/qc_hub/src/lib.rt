@@ -1,22 +1,24 @@
 //! One order is one step of the machine.
 //!
-//! `Hub::open` reads the site's journal. `Hub::apply` answers an order: a `send` adds one fact to the journal, a
-//! listing adds none, and a refused order changes nothing but the last moment seen. After `SiteFault` the hub is in
-//! fault, and the site is opened anew.
+//! `Hub::create` makes a site from a catalogue's text, and `Hub::open` reads the site's logs. `Hub::apply` answers an order: a `send` adds one fact to the journal, a listing adds
+//! none, and a refused order changes nothing but the last moment seen. After `SiteFault` the hub is in fault, and the
+//! site is opened anew.
 //!
-//! The steps are those of docs/RULES.md, "The machine": `specs/Step.antt` has them as definitions over a history that
-//! is scanned, and `specs/Stands.antt` says what the fields of a hub mean there.
+//! The steps are those of `qc_machine`. `specs/Stands.antt` says what the fields of a hub mean there, and
+//! `specs/Calls.antt` what each call is given and what it leaves, over any site and any step. `changes` is the only code
+//! that changes the site; each family of orders has a module (`sending`, `listing`).
 #![tactic(auto)]
 
+mod changes;
+mod classes;
+mod creation;
 mod error;
 mod hub;
-mod laws;
-mod limits;
 mod listing;
 mod opening;
 mod recorded;
+mod sending;
 
-pub use error::{Damage, HubError, OpenError};
+pub use error::HubError;
 pub use hub::Hub;
-pub use laws::steps_keep_the_rules;
-pub use limits::Limits;
+pub use qc_creation::{CreateError, is_made};

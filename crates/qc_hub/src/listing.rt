@@ -1,36 +1,37 @@
 // What the queues of an application show.
-ghost use Rattle.std.specs.Prelude.{◌≡◌, ◌∷◌, [], IfOk, map};
-ghost use Rattle.qc_base.specs.Messages.{listing};
-ghost use Rattle.qc_base.specs.declared.reply.Waiting.{Waiting};
+ghost use Rattle.std.specs.Prelude.{◌≡◌, ◌⊎◌, true, false, max, IfOk, OnErr};
+ghost use Rattle.qc_base.specs.Names.{is_app_name};
+ghost use Rattle.qc_machine.specs.Listing.{queues_shown};
 
-use qc_base::{Ids, NoMemory, Queue, Queues, Waiting};
-use qc_store::Store;
+use crate::error::HubError;
+use crate::hub::{Hub, later};
+use qc_base::{Moment, Name, is_app_name};
+use qc_protocol::{Refusal, Reply};
 use std::alloc::Global;
 
-const QUEUES: [u8; 6] = [0, 1, 2, 3, 4, 5];
-
-const DEAD_QUEUE: u8 = 6;
-
-/// The messages in the queues 0 to 5 of an application, each queue by due moment and then id.
-pub(crate) fn queues_of(alloc: Global, store: &Store, app: &[u8]) -> Result<Queues, NoMemory>
-    ensures { IfOk result (λ v. v ≡ map (λ q. listing app.now q store.now.messages) (0 ∷ 1 ∷ 2 ∷ 3 ∷ 4 ∷ 5 ∷ [])) }
-{
-    let mut queues: Vec<Queue> = Vec::new(alloc);
-    for queue in QUEUES {
-        let list = store.queue_list(alloc, app, queue)?;
-        queues.push(list).map_err(|_| NoMemory)?;
+impl Hub {
+    // The listing of an application's queues.
+    pub(crate) fn queues(
+        &mut self,
+        alloc: Global,
+        at: Moment,
+        app: &[u8],
+    ) -> Result<Reply, HubError>
+        ensures refused { is_app_name app.now ≡ false → IfOk result (λ reply. (reply ≡ Reply.Refused Refusal.NotBuilt) × (self.new ≡ self.old)) }
+        ensures listed { is_app_name app.now ≡ true → IfOk result (λ reply. (reply ≡ queues_shown self.old.store.messages app.now) × (self.new ≡ record self.old { last = max at self.old.last })) }
+        ensures no_memory { OnErr result ((result ≡ Err HubError.NoMemory) × (self.new ≡ self.old)) }
+        ensures kept { (self.new ≡ self.old) ⊎ (self.new ≡ record self.old { last = max at self.old.last }) }
+    {
+        if !is_app_name(app) {
+            return Ok(Reply::Refused(Refusal::NotBuilt));
+        }
+        let Some(name) = Name::read(app) else {
+            return Ok(Reply::Refused(Refusal::NotBuilt));
+        };
+        let Ok(list) = self.store.list(alloc, app) else {
+            return Err(HubError::NoMemory);
+        };
+        self.last = later(at, self.last);
+        Ok(Reply::Queues(name, list.queues, list.dead, list.consumed))
     }
-    Ok(Queues::over(queues))
-}
-
-/// The ids in the dead queue of an application, rising.
-pub(crate) fn dead_of(alloc: Global, store: &Store, app: &[u8]) -> Result<Ids, NoMemory>
-    ensures { IfOk result (λ v. v ≡ map (λ (w : Waiting). w.id) (listing app.now 6 store.now.messages)) }
-{
-    let list = store.queue_list(alloc, app, DEAD_QUEUE)?;
-    let mut ids = Vec::new(alloc);
-    for waiting in list.as_slice() {
-        ids.push(waiting.id).map_err(|_| NoMemory)?;
-    }
-    Ok(Ids::over(ids))
 }

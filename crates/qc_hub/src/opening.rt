@@ -1,112 +1,165 @@
-// Reading a site's journal.
-ghost use Rattle.std.specs.Prelude.{◌≡◌, ◌≢◌, true, false, take, IfOk, OnOk, OnErr, IsErr, IsErrOf};
-ghost use Rattle.qc_base.specs.History.{History, may_follow};
-ghost use Rattle.qc_site.specs.declared.site.SiteFile.TheVariants.{Journal as the_file};
-ghost use Rattle.qc_site.specs.Image.{with_bytes};
-ghost use Rattle.qc_site.specs.Disk.{LeavesOnly};
-ghost use Rattle.qc_site.specs.Causes.{HasCause};
-ghost use Rattle.qc_frame.specs.Gate.{After};
-ghost use Rattle.qc_frame.specs.Log.{SameLog};
-ghost use Rattle.qc_journal.specs.History.{journal_header};
-ghost use Rattle.qc_journal.specs.Journal.{JournalStands};
-ghost use Rattle.qc_hub.specs.State.{State};
-ghost use Rattle.qc_hub.specs.Sites.{ReadsAs, IsSiteOf};
-ghost use Rattle.qc_hub.specs.Stands.{IsHubOf, HubStands, AreNumbered, OthersStay};
-ghost use Rattle.qc_hub.specs.Opening.{DamagedAt, IsUnread, Takes, HasRead, with_closed_gate};
+// Reading a site's logs.
+ghost use Rattle.std.specs.Prelude.{◌≡◌, ◌<◌};
+ghost use Rattle.qc_frame.specs.Calls.{LogStands};
+ghost use Rattle.qc_frame.specs.Log.{just_opened};
+ghost use Rattle.qc_journal.specs.Journal.{log_of};
+ghost use Rattle.qc_machine.specs.History.{no_catalogue};
+ghost use Rattle.qc_hub.specs.Calls.{OpensSite};
+ghost use Rattle.qc_hub.specs.Opening.{in_journal, in_log, in_catalogue, damage_at, log_used, is_sent_next};
+ghost use Rattle.qc_hub.specs.Opening.{IsUnread, FindsLogs, TakesFact, ReadsFacts, FindsNoLine};
+ghost use Rattle.qc_hub.specs.Stands.{AreNumbered};
 
-use crate::error::{Damage, OpenError};
+use crate::classes::names_exception;
 use crate::hub::Hub;
-use crate::limits::Limits;
-use qc_base::{Fact, Moment};
-use qc_frame::LogError;
+use qc_base::{Fact, Moment, Recording};
+use qc_catalogue::{Catalogue, CatalogueError, Entries};
+use qc_frame::{Damage, Log, LogError};
 use qc_journal::Journal;
+use qc_machine::{Limits, OpenError};
 use qc_site::{Site, SiteFile};
 use qc_store::Store;
 use std::alloc::Global;
 
-impl From<LogError> for OpenError {
-    ghost use Rattle.std.specs.Prelude.{◌≡◌};
-    ghost use Rattle.qc_hub.specs.Opening.{open_error};
+const LOG_HEADER: [u8; 16] = *b"QC-CRMLOG--0001\n";
 
-    ghost from_gives = { λ e r. r ≡ open_error e };
+// Where the first entry of a log stands: behind the header, a gate and four bytes.
+const FIRST_ENTRY: u64 = 21;
 
-    fn from(error: LogError) -> Self {
-        match error {
-            LogError::SiteFault => OpenError::SiteFault,
-            LogError::NotMade => OpenError::NotMade,
-            LogError::Damaged(at) => damaged(at),
-            LogError::NoMemory => OpenError::NoMemory,
-        }
+// Why a site can't be opened where its journal can't be read on.
+fn journal_error(error: LogError) -> OpenError
+    ensures { result ≡ in_journal error }
+{
+    match error {
+        LogError::SiteFault => OpenError::SiteFault,
+        LogError::NotMade => OpenError::NotMade,
+        LogError::Damaged(at) => damaged(at),
+        LogError::NoMemory => OpenError::NoMemory,
+    }
+}
+
+// Why a site can't be opened where its log of compensations can't be read on. Each group there is one too many.
+fn log_error(error: LogError) -> OpenError
+    ensures { result ≡ in_log error }
+{
+    match error {
+        LogError::SiteFault => OpenError::SiteFault,
+        LogError::NotMade => OpenError::NotMade,
+        LogError::Damaged(_) => used_log(),
+        LogError::NoMemory => OpenError::NoMemory,
+    }
+}
+
+// Why a site can't be opened whose catalogue can't be read, by the offset of its entry.
+fn catalogue_error(at: u64, error: CatalogueError) -> OpenError
+    ensures { result ≡ in_catalogue at error }
+{
+    match error {
+        CatalogueError::NoMemory => OpenError::NoMemory,
+        _ => damaged(at),
     }
 }
 
 fn damaged(at: u64) -> OpenError
-    ensures { result ≡ OpenError.Damaged (record { file = the_file; at = at }) }
+    ensures { result ≡ OpenError.Damaged (damage_at at) }
 {
-    OpenError::Damaged(Damage {
-        file: SiteFile::Journal,
-        at,
-    })
+    let file = SiteFile::Journal;
+    OpenError::Damaged(Damage { file, at })
+}
+
+fn used_log() -> OpenError
+    ensures { result ≡ OpenError.Damaged log_used }
+{
+    let file = SiteFile::CrmLog;
+    let at = FIRST_ENTRY;
+    OpenError::Damaged(Damage { file, at })
+}
+
+fn empty_catalogue(alloc: Global) -> Catalogue
+    ensures { result ≡ no_catalogue }
+{
+    Catalogue {
+        tables: Entries::over(Vec::new(alloc)),
+        resources: Entries::over(Vec::new(alloc)),
+        apps: Entries::over(Vec::new(alloc)),
+    }
 }
 
 impl Hub {
-    /// Syncs and reads the journal, and closes its end gate where that isn't 0.
+    /// Syncs both logs of the site and reads them, the journal first, and closes their end gates where those aren't 0.
     ///
-    /// `NotMade` comes exactly where the first 16 bytes of the journal aren't its header. `Damaged` comes exactly where
-    /// the groups of the journal spell no legal history, with the offset of the first entry that spells nothing or
-    /// doesn't follow (docs/RULES.md, "Histories"). `SiteFault` comes only where the site's count of faults rose.
+    /// `NotMade` comes exactly where one of the logs hasn't its header, which is looked at before any group, and
+    /// `NoCatalogue` exactly where both have and the journal has no open group. `Damaged` comes exactly where the
+    /// journal's groups go on as no history does, or else where the log of compensations has an open group (docs/RULES.md,
+    /// "Opening"). `SiteFault` comes only where the site's count of faults rose.
     pub fn open<S: Site>(alloc: Global, site: &mut S, limits: Limits) -> Result<Hub, OpenError>
-        // The state is the one that the site at entry is read as.
-        ensures state { S.told → (s : State) → ReadsAs limits (S.shown site.old) s → IfOk result (λ hub. IsHubOf hub s × IsSiteOf (S.shown site.new) s) }
-        ensures reads { S.told → OnOk result ((s : State) × ReadsAs limits (S.shown site.old) s) }
-        ensures written { S.told → OnOk result (S.shown site.new ≡ with_bytes the_file (with_closed_gate (S.shown site.old).journal) (S.shown site.old)) }
-        ensures others { S.told → OnOk result (OthersStay (S.shown site.old) (S.shown site.new)) }
-        // Whatever the site: the hub may be used.
-        ensures stands { IfOk result (HubStands S.told (S.shown site.new) (S.may_leave site.new)) }
-        ensures no_fault { IfOk result (λ hub. hub.in_fault ≡ false) }
-
-        ensures not_made { S.told → IsErrOf result OpenError.NotMade → take 16 (S.shown site.old).journal ≢ journal_header }
-        ensures damaged { S.told → (d : Damage) → IsErrOf result (OpenError.Damaged d) → (d.file ≡ the_file) × ((take 16 (S.shown site.old).journal ≡ journal_header) × DamagedAt (S.shown site.old).journal d.at) }
-        ensures no_history { S.told → (d : Damage) → IsErrOf result (OpenError.Damaged d) → (s : State) → ¬ ReadsAs limits (S.shown site.old) s }
-        ensures unchanged { S.told → IsErr result → ¬ IsErrOf result OpenError.SiteFault → S.shown site.new ≡ S.shown site.old }
-
-        // A crash at any moment of the call leaves the same groups, and all else as it was.
-        ensures any_moment { S.told → LeavesOnly S.moment S.left_since site.old site.new (After the_file SameLog (S.may_leave site.old)) }
-        ensures cause { HasCause (S.faults site.old) (S.faults site.new) (IsErrOf result OpenError.SiteFault) }
+        ensures { OpensSite S.Site limits result site.old site.new }
     {
-        let journal = Journal::open(alloc, site)?;
+        let mut hub = Hub::unread(alloc, site, limits)?;
+        hub.read_facts(alloc, site)?;
+        if hub.facts == 0 {
+            return Err(OpenError::NoCatalogue);
+        }
+        hub.read_log(alloc, site)?;
+        Ok(hub)
+    }
+
+    // A hub that stands before the first groups of both logs.
+    fn unread<S: Site>(alloc: Global, site: &mut S, limits: Limits) -> Result<Hub, OpenError>
+        ensures { FindsLogs S.Site limits result site.old site.new }
+    {
         let Ok(store) = Store::make(alloc) else {
             return Err(OpenError::NoMemory);
         };
-        let mut hub = Hub {
+        let journal = match Journal::open(alloc, site) {
+            Ok(journal) => journal,
+            Err(error) => return Err(journal_error(error)),
+        };
+        let log = match Log::open(alloc, site, SiteFile::CrmLog, &LOG_HEADER) {
+            Ok(log) => log,
+            Err(error) => return Err(log_error(error)),
+        };
+        Ok(Hub {
             journal,
+            log,
+            catalogue: empty_catalogue(alloc),
             store,
+            facts: 0,
             last: Moment::clamp(0),
             limits,
             in_fault: false,
-        };
-        hub.read_facts(alloc, site)?;
-        Ok(hub)
+        })
     }
 
     // Reads the journal to its end.
     fn read_facts<S: Site>(&mut self, alloc: Global, site: &mut S) -> Result<(), OpenError>
-        requires stands { JournalStands S.told (S.shown site.old) (S.may_leave site.old) self.old.journal }
-        requires unread { IsUnread self.old }
-        ensures read { S.told → OnOk result (HasRead (S.shown site.old).journal (S.shown site.new).journal self.new) }
-        ensures others { S.told → OnOk result (OthersStay (S.shown site.old) (S.shown site.new)) }
-        ensures stands { OnOk result (JournalStands S.told (S.shown site.new) (S.may_leave site.new) self.new.journal) }
-        ensures ended { OnOk result (self.new.journal.ended ≡ true) }
-        ensures numbered { OnOk result (AreNumbered self.new.store.messages) }
-        ensures kept { OnOk result ((self.new.limits ≡ self.old.limits) × (self.new.in_fault ≡ self.old.in_fault)) }
-        ensures damaged { S.told → (d : Damage) → IsErrOf result (OpenError.Damaged d) → (d.file ≡ the_file) × DamagedAt (S.shown site.old).journal d.at }
-        ensures not_made { ¬ IsErrOf result OpenError.NotMade }
-        ensures unchanged { S.told → IsErr result → ¬ IsErrOf result OpenError.SiteFault → S.shown site.new ≡ S.shown site.old }
-        ensures any_moment { S.told → LeavesOnly S.moment S.left_since site.old site.new (After the_file SameLog (S.may_leave site.old)) }
-        ensures cause { HasCause (S.faults site.old) (S.faults site.new) (IsErrOf result OpenError.SiteFault) }
+        requires stands { LogStands S.Site (log_of self.old.journal) site.old }
+        requires unread { IsUnread self.old.limits self.old }
+        ensures { ReadsFacts S.Site result self.old site.old self.new site.new }
     {
-        while let Some((at, fact)) = self.journal.next_fact(alloc, site)? {
+        loop {
+            let next = match self.journal.next_fact(alloc, site) {
+                Ok(next) => next,
+                Err(error) => return Err(journal_error(error)),
+            };
+            let Some((at, fact)) = next else {
+                return Ok(());
+            };
             self.take_fact(alloc, at, fact)?;
+        }
+    }
+
+    // Reads the log of compensations to its end, which is its start.
+    fn read_log<S: Site>(&mut self, alloc: Global, site: &mut S) -> Result<(), OpenError>
+        requires stands { LogStands S.Site self.old.log site.old }
+        requires opened { self.old.log ≡ just_opened SiteFile.CrmLog 16 self.old.log.length }
+        ensures { FindsNoLine S.Site result self.old site.old self.new site.new }
+    {
+        let next = match self.log.next_group(alloc, site) {
+            Ok(next) => next,
+            Err(error) => return Err(log_error(error)),
+        };
+        if next.is_some() {
+            return Err(used_log());
         }
         Ok(())
     }
@@ -114,27 +167,63 @@ impl Hub {
     // Goes on with a fact that was read, whose entry has this offset.
     fn take_fact(&mut self, alloc: Global, at: u64, fact: Fact) -> Result<(), OpenError>
         requires numbered { AreNumbered self.old.store.messages }
-        ensures taken { OnOk result (Takes fact self.old self.new) }
-        ensures kept { OnOk result (self.new ≡ record self.old { store = self.new.store; last = self.new.last }) }
-        ensures damaged { (d : Damage) → IsErrOf result (OpenError.Damaged d) → d ≡ record { file = the_file; at = at } }
-        ensures refused { (d : Damage) → IsErrOf result (OpenError.Damaged d) → (h : History) → h.messages ≡ self.old.store.messages → h.last ≡ self.old.last → may_follow h fact ≡ false }
-        ensures not_made { ¬ IsErrOf result OpenError.NotMade }
-        ensures no_fault { ¬ IsErrOf result OpenError.SiteFault }
+        requires fits { self.old.facts < 4611686018427387904 }
+        ensures { TakesFact at fact result self.old self.new }
     {
-        let Fact::Sent(id, moment, recording) = fact else {
-            return Err(damaged(at));
-        };
-        if id != self.store.len() + 1 {
+        match fact {
+            Fact::Catalogue(text) => self.take_catalogue(alloc, at, text.as_slice()),
+            Fact::Sent(id, moment, recording) => {
+                self.take_sent(alloc, at, id, moment, recording)
+            }
+            _ => Err(damaged(at)),
+        }
+    }
+
+    fn take_catalogue(&mut self, alloc: Global, at: u64, text: &[u8]) -> Result<(), OpenError>
+        requires numbered { AreNumbered self.old.store.messages }
+        ensures { TakesFact at (Fact.Catalogue text.now) result self.old self.new }
+    {
+        if self.facts != 0 {
             return Err(damaged(at));
         }
-        if moment.get() < self.last.get() {
+        let catalogue = match Catalogue::read(alloc, text) {
+            Ok(catalogue) => catalogue,
+            Err(error) => return Err(catalogue_error(at, error)),
+        };
+        self.catalogue = catalogue;
+        self.facts = 1;
+        Ok(())
+    }
+
+    fn take_sent(
+        &mut self,
+        alloc: Global,
+        at: u64,
+        id: u64,
+        moment: Moment,
+        recording: Recording,
+    ) -> Result<(), OpenError>
+        requires numbered { AreNumbered self.old.store.messages }
+        requires fits { self.old.facts < 4611686018427387904 }
+        ensures { TakesFact at (Fact.Sent id moment recording) result self.old self.new }
+    {
+        if !self.is_next(id, moment) {
             return Err(damaged(at));
         }
         let Ok(()) = self.store.reserve(alloc) else {
             return Err(OpenError::NoMemory);
         };
-        self.store.insert(id, recording, false, moment);
+        let final_class = names_exception(&self.catalogue, &recording);
+        self.store.insert(id, recording, final_class, moment);
+        self.facts += 1;
         self.last = moment;
         Ok(())
+    }
+
+    // Whether a message is sent next with this id, behind a first fact and at a moment that doesn't fall.
+    fn is_next(&self, id: u64, moment: Moment) -> bool
+        ensures { result ≡ is_sent_next self.now id moment }
+    {
+        self.facts >= 1 && self.last.get() <= moment.get() && id == self.store.len() + 1
     }
 }

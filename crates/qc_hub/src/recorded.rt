@@ -1,11 +1,10 @@
 // The recording of the calls that a send asks for.
 ghost use Rattle.std.specs.Prelude.{◌≡◌, ◌≤◌, Option, Some, None, IfOk, IfSome, IfNone, length, map, false, true, if◌then◌else◌};
 ghost use Rattle.std.specs.List.{list_all};
-ghost use Rattle.qc_hub.specs.Recorded.{arg_fits, arg_recorded, call_fits, call_recorded, as_recorded, recording_of};
+ghost use Rattle.qc_machine.specs.Recorded.{arg_fits, arg_recorded, call_fits, call_recorded, as_recorded, recording_of};
 
-use qc_base::{
-    Amount, Arg, Args, Call, Calls, Name, NoMemory, RawArg, RawCall, Recording, Text, is_app_name,
-};
+use qc_base::{Amount, Arg, Args, Call, Calls, Name, NoMemory, Recording, Text, is_app_name};
+use qc_protocol::{RawArg, RawCall};
 use std::alloc::Global;
 
 const MOST_ARGS: usize = 16;
@@ -34,7 +33,7 @@ fn record_args(alloc: Global, args: &[RawArg]) -> Result<Option<Args>, NoMemory>
     ensures some { IfOk result (λ r. IfSome r (λ v. (list_all arg_fits args.now ≡ true) × (v ≡ map arg_recorded args.now))) }
     ensures none { IfOk result (λ r. IfNone r (list_all arg_fits args.now ≡ false)) }
 {
-    let mut items = Vec::new(alloc);
+    let mut items = Vec::with_capacity(alloc, args.len()).map_err(|_| NoMemory)?;
     for arg in args {
         let Some(recorded) = record_arg(arg) else {
             return Ok(None);
@@ -64,7 +63,7 @@ fn record_each(alloc: Global, calls: &[RawCall]) -> Result<Option<Calls>, NoMemo
     ensures some { IfOk result (λ r. IfSome r (λ v. (list_all call_fits calls.now ≡ true) × (v ≡ map call_recorded calls.now))) }
     ensures none { IfOk result (λ r. IfNone r (list_all call_fits calls.now ≡ false)) }
 {
-    let mut items = Vec::new(alloc);
+    let mut items = Vec::with_capacity(alloc, calls.len()).map_err(|_| NoMemory)?;
     for call in calls {
         let Some(recorded) = record_call(alloc, call)? else {
             return Ok(None);

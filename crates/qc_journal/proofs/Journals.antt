@@ -7,10 +7,12 @@ use Rattle.qc_base.specs.Spelling.{spelled_fact, is_fact, SpellsFact}
 use Rattle.qc_base.specs.declared.fact.Fact.{Fact}
 use Rattle.qc_site.specs.Image.{Image, bytes_of}
 use Rattle.qc_site.specs.Disk.{Images}
+use Rattle.qc_site.specs.declared.site.Site.{Ghosts}
 use Rattle.qc_site.specs.declared.site.SiteFile.TheVariants.{Journal}
-use Rattle.qc_frame.specs.Frame.{entry}
+use Rattle.qc_frame.specs.Frame.{entry, groups_at}
 use Rattle.qc_frame.specs.declared.entries.Entry.{Entry}
-use Rattle.qc_frame.specs.Log.{LogView, Stands, NextGroup, DamagedGroup, groups_at, staged, forced}
+use Rattle.qc_frame.specs.Log.{LogView, Stands, NextGroup, DamagedGroup, HasGroup, WholeOrNotFrom, staged, forced}
+use Rattle.qc_frame.specs.Calls.{ChangesFile}
 use Rattle.qc_frame.proofs.Payload.{entries_alone, length-entry}
 use Rattle.qc_frame.proofs.Staged.{still_stands}
 use Rattle.qc_journal.specs.History.{fact_payload}
@@ -19,7 +21,7 @@ use Rattle.qc_base.proofs.Facts.{fact-free, fact-bounded}
 
 -- the log of a journal, from what is seen of it
 pub log_is : (log : LogView) (journal : JournalView) → log.file ≡ Journal → log.payload ≡ [] → journal_of log ≡ journal → log ≡ log_of journal
-log_is log journal file payload seen = (λ i. record { file = file i; place = log.place; length = log.length; ended = log.ended; payload = payload i; spare = log.spare }) ∙ ap log_of seen
+log_is log journal file payload seen = (λ i. record { file = file i; start = log.start; place = log.place; length = log.length; ended = log.ended; payload = payload i; spare = log.spare }) ∙ ap log_of seen
 
 pub stands_log : (told : Type 0) (shown : Image) (images : Images) (log : LogView) (journal : JournalView) → log.file ≡ Journal → log.payload ≡ [] → journal_of log ≡ journal → JournalStands told shown images journal → Stands told shown images log
 stands_log told shown images log journal file payload seen st = subst (λ (l : LogView). Stands told shown images l) (sym (log_is log journal file payload seen)) st
@@ -46,11 +48,27 @@ appended_is log new journal fact payload seen is room =
     let place : log.place + 5 + length (log.payload ++ fact_payload fact) ≡ log.place + 9 + size = omega (arith, long) in
     let end : max log.length (log.place + 6 + length (log.payload ++ fact_payload fact)) ≡ max log.length (log.place + 10 + size) = omega (arith, long) in
     let spare : log.spare - (size + 4) + length (log.payload ++ fact_payload fact) ≡ log.spare = omega (arith, long, room) in
-    let each : journal_of (forced (staged log (spelled_fact fact))) ≡ appended (journal_of log) fact = λ i. record { place = place i; length = end i; ended = log.ended; spare = spare i } in
+    let each : journal_of (forced (staged log (spelled_fact fact))) ≡ appended (journal_of log) fact = λ i. record { start = log.start; place = place i; length = end i; ended = log.ended; spare = spare i } in
     ap journal_of is ∙ each ∙ ap (λ (j : JournalView). appended j fact) seen
 
 pub not_appended_is : (log new : LogView) (journal : JournalView) (fact : Fact) → journal_of log ≡ journal → new ≡ record (staged log (spelled_fact fact)) { payload = [] } → journal_of new ≡ not_appended journal fact
 not_appended_is log new journal fact seen is = ap journal_of is ∙ ap (λ (j : JournalView). not_appended j fact) seen
+
+-- what the log's force made is the fact's group
+pub made_of : (old new : Image) (log stage : LogView) (journal : JournalView) (fact : Fact) → stage ≡ staged log (spelled_fact fact) → log ≡ log_of journal → stage.payload ≡ fact_payload fact → HasGroup stage.payload stage old new → HasGroup (fact_payload fact) (log_of journal) old new
+made_of old new log stage journal fact waits is payload made =
+    let of_fact : HasGroup (fact_payload fact) stage old new = subst (λ (p : List ℕ). HasGroup p stage old new) payload made in
+    let of_staged : HasGroup (fact_payload fact) (staged log (spelled_fact fact)) old new = subst (λ (l : LogView). HasGroup (fact_payload fact) l old new) waits of_fact in
+    subst (λ (l : LogView). HasGroup (fact_payload fact) l old new) is (record { shown = of_staged.shown; whole = of_staged.whole })
+
+pub changes_of : {S : Type 0} (g : Ghosts S) (stage log : LogView) (journal : JournalView) (fact : Fact) (failed : Type 0) (site after : S) → stage ≡ staged log (spelled_fact fact) → log ≡ log_of journal → stage.payload ≡ fact_payload fact
+    → ChangesFile g stage.file (WholeOrNotFrom stage.start stage.payload) failed site after → ChangesFile g Journal (WholeOrNotFrom journal.start (fact_payload fact)) failed site after
+changes_of g stage log journal fact failed site after waits is payload changes =
+    let file : stage.file ≡ Journal = ap (λ (l : LogView). l.file) (waits ∙ ap (λ (l : LogView). staged l (spelled_fact fact)) is) in
+    let start : stage.start ≡ journal.start = ap (λ (l : LogView). l.start) (waits ∙ ap (λ (l : LogView). staged l (spelled_fact fact)) is) in
+    subst (λ f. ChangesFile g f (WholeOrNotFrom journal.start (fact_payload fact)) failed site after) file (
+    subst (λ n. ChangesFile g stage.file (WholeOrNotFrom n (fact_payload fact)) failed site after) start (
+    subst (λ (p : List ℕ). ChangesFile g stage.file (WholeOrNotFrom stage.start p) failed site after) payload changes))
 
 -- a payload that spells a fact is the fact's alone
 pub spelled_by : (fact : Fact) (entries : List (List ℕ)) (payload : List ℕ) → is_fact fact ≡ true → payload ≡ flat_map entry entries → payload ≡ fact_payload fact → entries ≡ spelled_fact fact ∷ []

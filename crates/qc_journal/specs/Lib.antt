@@ -1,3 +1,4 @@
 pub mod History
 pub mod Journal
 pub mod Parts
+pub mod Calls

@@ -1,14 +1,11 @@
 // A log in which each group is one fact.
-ghost use Rattle.std.specs.Prelude.{◌≡◌, ◌≢◌, ◌+◌, ◌-◌, ◌<◌, ◌≤◌, ◌++◌, ℕ, [], ◌∷◌, true, length, take, map, max, OnOk, OnErr, IfOk, IfSome, IfNone, IsErr, IsErrOf};
+ghost use Rattle.std.specs.Prelude.{◌≡◌, ◌≢◌, ℕ, [], ◌∷◌, true, map, max, OnOk, OnErr, IfOk, IfSome, IfNone, IsErrOf};
 ghost use Rattle.qc_base.specs.Spelling.{spelled_fact, is_fact};
-ghost use Rattle.qc_site.specs.Image.{with_bytes};
-ghost use Rattle.qc_site.specs.Disk.{Certain, LeavesOnly, NoMore};
-ghost use Rattle.qc_site.specs.Causes.{HasCause};
 ghost use Rattle.qc_site.specs.declared.site.SiteFile.TheVariants.{Journal as the_file};
-ghost use Rattle.qc_frame.specs.Gate.{After};
-ghost use Rattle.qc_frame.specs.Log.{Whole, WholeOrNot, BeingMade, SameLog};
-ghost use Rattle.qc_journal.specs.History.{journal_header, fact_payload};
-ghost use Rattle.qc_journal.specs.Journal.{JournalStands, journal_opened, NextFact, NoFact, DamagedFact, appended, not_appended, with_fact};
+ghost use Rattle.qc_frame.specs.Calls.{LogStands, LooksAt, MakesLog, OpensLog, ReadsOn};
+ghost use Rattle.qc_journal.specs.History.{journal_header};
+ghost use Rattle.qc_journal.specs.Journal.{log_of, CanAppend, DamagedFact};
+ghost use Rattle.qc_journal.specs.Calls.{FindsFact, AppendsFact};
 
 use crate::fact_reader::read_fact;
 use crate::fact_writer::put_fact;
@@ -22,9 +19,10 @@ const HEADER: [u8; 16] = *b"QC-JOURNAL-0001\n";
 
 /// The journal, which is read fact by fact up to its end, and to which facts are then added.
 ///
-/// Contracts see the place of the gate before which it stands, the length of its file, whether the end was reached, and
-/// the bytes of room for further facts. `JournalStands` says that it stands on a site: as a log of the file Journal, in
-/// which nothing waits.
+/// Contracts see the place at which it was opened, the place of the gate before which it stands, the length of its file,
+/// whether the end was reached, and the bytes of room for further facts. It stands on a site as a log of the file Journal
+/// in which nothing waits, `log_of`. What a call leaves of journal and site is in `specs/Calls.antt`, and what of it any
+/// log has in common in that file of `qc_frame`.
 #[derive(Drop)]
 pub struct Journal {
     log: Log,
@@ -70,12 +68,18 @@ impl Journal {
     ///
     /// What the file held before is lost. `Failed` comes only where the site's count of faults rose.
     pub fn make<S: Site>(site: &mut S) -> Result<(), Failed>
-        ensures made { S.told → OnOk result (S.shown site.new ≡ with_bytes the_file (journal_header ++ 0 ∷ []) (S.shown site.old)) }
-        ensures certain { S.told → OnOk result (Certain the_file (journal_header ++ 0 ∷ []) (S.may_leave site.new)) }
-        ensures any_moment { S.told → LeavesOnly S.moment S.left_since site.old site.new (After the_file BeingMade (S.may_leave site.old)) }
-        ensures cause { HasCause (S.faults site.old) (S.faults site.new) (IsErr result) }
+        ensures { MakesLog S.Site the_file journal_header result site.old site.new }
     {
         Log::make(site, SiteFile::Journal, &HEADER)
+    }
+
+    /// Syncs the file and tells whether it has the journal's header and an open group behind it.
+    ///
+    /// `Failed` comes only where the site's count of faults rose. Nothing is written.
+    pub fn is_made<S: Site>(site: &mut S) -> Result<bool, Failed>
+        ensures { LooksAt S.Site the_file journal_header result site.old site.new }
+    {
+        Log::is_begun(site, SiteFile::Journal, &HEADER)
     }
 
     /// Syncs the file and stands before the first fact.
@@ -83,15 +87,8 @@ impl Journal {
     /// `NotMade` comes exactly where the first 16 bytes of the file aren't the journal's header, `SiteFault` only where
     /// the site's count of faults rose, and `Damaged` never. Nothing is written.
     pub fn open<S: Site>(alloc: Global, site: &mut S) -> Result<Journal, LogError>
-        ensures journal { IfOk result (λ journal. journal ≡ journal_opened journal.length) }
-        ensures header { S.told → OnOk result (take 16 (S.shown site.old).journal ≡ journal_header) }
-        ensures stands { IfOk result (JournalStands S.told (S.shown site.new) (S.may_leave site.new)) }
-        ensures same { S.told → ¬ IsErrOf result LogError.SiteFault → S.shown site.new ≡ S.shown site.old }
-        ensures crash { S.told → NoMore (S.may_leave site.old) (S.may_leave site.new) }
-        ensures any_moment { S.told → LeavesOnly S.moment S.left_since site.old site.new (S.may_leave site.old) }
-        ensures not_made { S.told → IsErrOf result LogError.NotMade → take 16 (S.shown site.old).journal ≢ journal_header }
+        ensures opens { OpensLog S.Site the_file journal_header 16 log_of result site.old site.new }
         ensures not_damaged { (at : ℕ) → ¬ IsErrOf result (LogError.Damaged at) }
-        ensures cause { HasCause (S.faults site.old) (S.faults site.new) (IsErrOf result LogError.SiteFault) }
     {
         let log = Log::open(alloc, site, SiteFile::Journal, &HEADER)?;
         Ok(Journal {
@@ -112,26 +109,10 @@ impl Journal {
         alloc: Global,
         site: &mut S,
     ) -> Result<Option<(u64, Fact)>, LogError>
-        requires stands { JournalStands S.told (S.shown site.old) (S.may_leave site.old) self.old }
-
-        ensures fact { S.told → IfOk result (λ r. IfSome r (λ next. NextFact (S.shown site.old).journal self.old self.new next.0 next.1)) }
-        // Whatever the site: what else of the journal stays, and that a loop to the end ends.
-        ensures moved { IfOk result (λ r. IfSome r (λ next. self.new ≡ record self.old { place = self.new.place })) }
-        ensures ended { IfOk result (λ r. IfNone r (self.new ≡ record self.old { length = self.new.length; ended = true })) }
-        ensures onward { IfOk result (λ r. IfSome r (λ next. (self.old.place < self.new.place) × (self.new.place ≤ 4611686018427387904))) }
-        ensures failed { OnErr result (self.new ≡ record self.old { place = self.new.place }) }
-        ensures still { S.told → IfOk result (λ r. IfSome r (λ next. S.shown site.new ≡ S.shown site.old)) }
-        ensures end { S.told → IfOk result (λ r. IfNone r (NoFact (S.shown site.old).journal (S.shown site.new).journal self.old self.new)) }
-        ensures stands { OnOk result (JournalStands S.told (S.shown site.new) (S.may_leave site.new) self.new) }
-        ensures others { S.told → OnOk result (S.shown site.new ≡ with_bytes the_file (S.shown site.new).journal (S.shown site.old)) }
-
-        // A crash at any moment of the call leaves the same groups, and all else as it was.
-        ensures any_moment { S.told → LeavesOnly S.moment S.left_since site.old site.new (After the_file SameLog (S.may_leave site.old)) }
-
-        ensures damaged { S.told → (at : ℕ) → IsErrOf result (LogError.Damaged at) → DamagedFact (S.shown site.old).journal self.old.place at }
-        ensures unchanged { S.told → IsErr result → ¬ IsErrOf result LogError.SiteFault → S.shown site.new ≡ S.shown site.old }
-        ensures not_made { ¬ IsErrOf result LogError.NotMade }
-        ensures cause { HasCause (S.faults site.old) (S.faults site.new) (IsErrOf result LogError.SiteFault) }
+        requires stands { LogStands S.Site (log_of self.old) site.old }
+        ensures finds { FindsFact S.Site result self.old site.old self.new site.new }
+        ensures reads { ReadsOn S.Site (DamagedFact (S.shown site.old).journal self.old.place)
+            result (log_of self.old) site.old (log_of self.new) site.new }
     {
         let Some(group) = self.log.next_group(alloc, site)? else {
             return Ok(None);
@@ -170,22 +151,9 @@ impl Journal {
     /// each later crash leaves a file that has it, and the room that it took is free again. `Failed` comes only where
     /// the site's count of faults rose; the journal is then opened again.
     pub fn append_forced<S: Site>(&mut self, site: &mut S, fact: &Fact) -> Result<(), Failed>
-        requires stands { JournalStands S.told (S.shown site.old) (S.may_leave site.old) self.old }
-        requires limits { is_fact fact.now ≡ true }
-        requires ended { self.old.ended ≡ true }
-        requires room { length (spelled_fact fact.now) + 4 ≤ self.old.spare }
-
-        ensures journal { OnOk result (self.new ≡ appended self.old fact.now) }
-        ensures failed { OnErr result (self.new ≡ not_appended self.old fact.now) }
-        ensures bytes { S.told → OnOk result ((S.shown site.new).journal ≡ with_fact (S.shown site.old).journal self.old.place fact.now) }
-        ensures forced { S.told → OnOk result (Whole (fact_payload fact.now) (S.shown site.old).journal (S.shown site.new).journal) }
-        ensures others { S.told → OnOk result (S.shown site.new ≡ with_bytes the_file (S.shown site.new).journal (S.shown site.old)) }
-        ensures stands { OnOk result (JournalStands S.told (S.shown site.new) (S.may_leave site.new) self.new) }
-
-        // A crash at any moment of the call leaves the fact whole or not at all, and all else as it was.
-        ensures any_moment { S.told → LeavesOnly S.moment S.left_since site.old site.new (After the_file (WholeOrNot (fact_payload fact.now)) (S.may_leave site.old)) }
-
-        ensures cause { HasCause (S.faults site.old) (S.faults site.new) (IsErr result) }
+        requires stands { LogStands S.Site (log_of self.old) site.old }
+        requires can { CanAppend self.old fact.now }
+        ensures { AppendsFact S.Site fact.now result self.old site.old self.new site.new }
     {
         put_fact(&mut self.spelling, fact);
         self.log.stage(&self.spelling);

@@ -1,4 +1,5 @@
 mod Steps
+mod Placed
 mod Pushed
 mod Amounts
 mod Moved
@@ -6,3 +7,6 @@ mod Mixed
 mod Allowed
 mod SameRows
 mod Ends
+mod Undone
+mod Tied
+mod Walks

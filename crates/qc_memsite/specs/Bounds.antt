@@ -5,13 +5,12 @@ use Rattle.qc_site.specs.Image.{Image, IsShort, bytes_of, with_bytes, with_row}
 use Rattle.qc_site.specs.Disk.{Images, Cut, FileStep, Torn, OneStep, written}
 use Rattle.qc_site.specs.declared.site.SiteFile.{SiteFile}
 use Rattle.qc_site.specs.declared.site.SiteFile.TheVariants.{Journal, CrmLog, Snap}
-use Rattle.qc_memsite.specs.declared.kept.Change.{Change}
-use Rattle.qc_memsite.specs.declared.kept.Change.TheVariants.{Wrote, CutTo, Synced, Put}
+use Rattle.qc_memsite.specs.Call.{Call, Wrote, CutTo, Synced, Put}
 use Rattle.qc_memsite.specs.Calls.{after, Leaves, images_after, ImageOf, is_single}
 
 -- where the bytes of a call end
-abbrev pub end_of : Change → ℕ
-end_of (Wrote file at bytes) = at + length bytes.items
+abbrev pub end_of : Call → ℕ
+end_of (Wrote file at bytes) = at + length bytes
 end_of (CutTo file len) = 0
 end_of (Synced file) = 0
 end_of (Put resource key amount) = 0
@@ -50,24 +49,24 @@ module _ (file : SiteFile) (d c : Image) (short : IsShort d) where
 short_row : (r k : List ℕ) (amount : ℕ) (image : Image) → IsShort image → IsShort (with_row r k amount image)
 short_row r k amount image short = record { journal = short.journal; crm_log = short.crm_log; snap = short.snap }
 
-after_short : (x : Change) (s : Image) → IsShort s → end_of x ≤ 4611686018427387904 → IsShort (after x s)
-after_short (Wrote file at v) s short end = short_with file (written (bytes_of file s) at v.items) s short (written_short (bytes_of file s) at v.items (short_file file s short) end)
+after_short : (x : Call) (s : Image) → IsShort s → end_of x ≤ 4611686018427387904 → IsShort (after x s)
+after_short (Wrote file at v) s short end = short_with file (written (bytes_of file s) at v) s short (written_short (bytes_of file s) at v (short_file file s short) end)
 after_short (CutTo file len) s short end = short_with file (take len (bytes_of file s)) s short (omega (arith, length-take len (bytes_of file s), short_file file s short))
 after_short (Synced file) s short end = short
-after_short (Put r k amount) s short end = short_row r.items k.items amount s short
+after_short (Put r k amount) s short end = short_row r k amount s short
 
-leaves_short : (x : Change) (s d c : Image) → IsShort s → IsShort d → end_of x ≤ 4611686018427387904 → Leaves x s d c → IsShort c
-leaves_short (Wrote file at v) s d c short before end (inl done) = subst IsShort (sym done.1) (short_with file (written (bytes_of file s) at v.items) d before (written_short (bytes_of file s) at v.items (short_file file s short) end))
-leaves_short (Wrote file at v) s d c short before end (inr part) = by_either file d c before (is_single (bytes_of file s) at v.items) at v.items end part
+leaves_short : (x : Call) (s d c : Image) → IsShort s → IsShort d → end_of x ≤ 4611686018427387904 → Leaves x s d c → IsShort c
+leaves_short (Wrote file at v) s d c short before end (inl done) = subst IsShort (sym done.1) (short_with file (written (bytes_of file s) at v) d before (written_short (bytes_of file s) at v (short_file file s short) end))
+leaves_short (Wrote file at v) s d c short before end (inr part) = by_either file d c before (is_single (bytes_of file s) at v) at v end part
 leaves_short (CutTo file len) s d c short before end went = by_step file d c before (Cut len) (λ new cut. cut_short len (bytes_of file d) new (short_file file d before) cut) went
 leaves_short (Synced file) s d c short before end went = subst IsShort (sym went.0) before
-leaves_short (Put r k amount) s d c short before end went = subst IsShort (sym went) (short_row r.items k.items amount d before)
+leaves_short (Put r k amount) s d c short before end went = subst IsShort (sym went) (short_row r k amount d before)
 
-all_short : (calls : List Change) (s : Image) (images : Images) → IsShort s → ((d : Image) → images d → IsShort d) → All (λ x. end_of x ≤ 4611686018427387904) calls → (c : Image) → images_after calls s images c → IsShort c
+all_short : (calls : List Call) (s : Image) (images : Images) → IsShort s → ((d : Image) → images d → IsShort d) → All (λ x. end_of x ≤ 4611686018427387904) calls → (c : Image) → images_after calls s images c → IsShort c
 all_short [] s images short each ends c image = each c image
 all_short (x ∷ calls) s images short each ends c image =
     let end : end_of x ≤ 4611686018427387904 = ends zero x (omega arith) in
     all_short calls (after x s) (λ e. (d : Image) × images d × Leaves x s d e) (after_short x s short end) (λ e from. leaves_short x s from.0 e short (each from.0 from.1) end from.2) (λ i d lt. ends (suc i) d (omega (arith, lt))) c image
 
-pub short_image : (first : Image) (calls : List Change) → IsShort first → All (λ x. end_of x ≤ 4611686018427387904) calls → (c : Image) → ImageOf first calls c → IsShort c
+pub short_image : (first : Image) (calls : List Call) → IsShort first → All (λ x. end_of x ≤ 4611686018427387904) calls → (c : Image) → ImageOf first calls c → IsShort c
 short_image first calls short ends c image = all_short calls first (λ d. d ≡ first) short (λ d is. subst IsShort (sym is) short) ends c image

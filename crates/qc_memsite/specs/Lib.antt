@@ -1,10 +1,16 @@
 pub mod Bounds
+pub mod Call
 pub mod Calls
 pub mod Chosen
 pub mod ChosenFile
+pub mod Contents
 pub mod Doors
+pub mod Edits
+pub mod Failures
 pub mod Keepers
 pub mod Laws
+pub mod Left
+pub mod Noted
 pub mod Numbers
 pub mod Plan
 pub mod Rows

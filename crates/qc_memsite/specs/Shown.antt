@@ -6,21 +6,29 @@ use Rattle.qc_site.specs.declared.site.SiteFile.{SiteFile}
 use Rattle.qc_site.specs.declared.site.SiteFile.TheVariants.{Journal, CrmLog, Snap}
 use Rattle.qc_memsite.specs.declared.kept.Kept.{Kept}
 use Rattle.qc_memsite.specs.declared.memsite.Reads.{Reads}
-use Rattle.qc_memsite.specs.Calls.{image_of, shown_after, ImageOf, SinceOf}
-use Rattle.qc_memsite.specs.Plan.{file_code}
+use Rattle.qc_memsite.specs.Calls.{shown_after, ImageOf, SinceOf}
+use Rattle.qc_memsite.specs.Contents.{image_of}
+use Rattle.qc_memsite.specs.Call.{Call, file_code}
 
--- what a site shows, and what a crash may leave of it
+-- what a site was at first, and the calls that have changed it since
+abbrev pub first_by : Kept → Image
+first_by kept = image_of kept.history.first
+
+abbrev pub calls_by : Kept → List Call
+calls_by kept = kept.history.calls
+
+-- what it shows, and what a crash may leave of it
 abbrev pub shown_by : Kept → Image
-shown_by kept = shown_after kept.calls.items (image_of kept.first)
+shown_by kept = shown_after (calls_by kept) (first_by kept)
 
 abbrev pub images_by : Kept → Images
-images_by kept c = ImageOf (image_of kept.first) kept.calls.items c
+images_by kept c = ImageOf (first_by kept) (calls_by kept) c
 
 abbrev pub moment_by : Kept → ℕ
-moment_by kept = length kept.calls.items
+moment_by kept = length (calls_by kept)
 
 abbrev pub since_by : Kept → ℕ → Images
-since_by kept t c = SinceOf (image_of kept.first) kept.calls.items t c
+since_by kept t c = SinceOf (first_by kept) (calls_by kept) t c
 
 -- the reads of a file, and one more
 abbrev pub reads_of : SiteFile → Reads → List (ℕ × ℕ)
@@ -33,5 +41,5 @@ noted f file at count reads = if file_code f == file_code file then reads ++ (at
 
 -- neither what is shown nor what a crash may leave has changed
 pub record Unchanged (old new : Kept) : Type 0 where
-  pub first : new.first ≡ old.first
-  pub calls : new.calls.items ≡ old.calls.items
+  pub first : first_by new ≡ first_by old
+  pub calls : calls_by new ≡ calls_by old

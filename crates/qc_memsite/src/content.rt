@@ -1,60 +1,40 @@
 // What a site in memory shows: three files and the rows.
-ghost use Rattle.std.specs.Prelude.{◌≡◌, ◌+◌, ◌≤◌, ℕ, List, [], length, take, None, IfOk, OnOk, OnErr, IfSome};
-ghost use Rattle.qc_site.specs.Disk.{written};
-ghost use Rattle.qc_site.specs.Image.{bytes_of, with_bytes, with_row};
-ghost use Rattle.qc_memsite.specs.Calls.{image_of};
+ghost use Rattle.std.specs.Prelude.{◌≡◌, ◌≤◌, ℕ, List, [], length, None, Bool, IfOk, OnOk, OnErr, IfSome};
+ghost use Rattle.qc_site.specs.Image.{bytes_of};
 
+use crate::file::MemFile;
 use crate::rows::RowList;
 use qc_site::SiteFile;
 use std::alloc::{AllocError, Global};
 
 #[derive(Drop)]
 pub(crate) struct Content {
-    pub(crate) journal: Vec<u8>,
-    pub(crate) crm_log: Vec<u8>,
-    pub(crate) snap: Vec<u8>,
+    pub(crate) journal: MemFile,
+    pub(crate) crm_log: MemFile,
+    pub(crate) snap: MemFile,
     pub(crate) rows: RowList,
 }
 
-fn overwrite_inside(file: &mut [u8], at: usize, bytes: &[u8])
-    requires { at + length bytes.now ≤ length file.old }
-    ensures { file.new ≡ written file.old at bytes.now }
-{
-    file[at..at + bytes.len()].copy_from_slice(bytes);
-}
-
-// Writes over what is there, and past the end.
-pub(crate) fn overwrite(file: &mut Vec<u8>, at: u64, bytes: &[u8]) -> Result<(), AllocError>
-    ensures ok { OnOk result (file.new.items ≡ written file.old.items at bytes.now) }
-    ensures err { OnErr result (file.new.items ≡ file.old.items) }
-{
-    if at >= file.len() as u64 {
-        return file.extend_from_slice(bytes);
-    }
-    let at = at as usize;
-    let (inside, beyond) = bytes.split_at(bytes.len().min(file.len() - at));
-    file.extend_from_slice(beyond)?;
-    overwrite_inside(file, at, inside);
-    Ok(())
-}
-
 impl Content {
+    ghost use Rattle.qc_memsite.specs.Call.{Wrote, CutTo, Synced, Put};
+    ghost use Rattle.qc_memsite.specs.Contents.{image_of};
+    ghost use Rattle.qc_memsite.specs.Left.{left_in, file_of, Same, Goes};
+
     pub(crate) fn empty(alloc: Global) -> Content
-        ensures journal { result.journal.items ≡ [] }
-        ensures crm_log { result.crm_log.items ≡ [] }
-        ensures snap { result.snap.items ≡ [] }
+        ensures files { (file : SiteFile) → bytes_of file (image_of result) ≡ [] }
+        ensures left { (flips : Bool) (file : SiteFile) → left_in flips (file_of file result) ≡ [] }
         ensures rows { (r k : List ℕ) → (image_of result).rows r k ≡ None }
     {
         Content {
-            journal: Vec::new(alloc),
-            crm_log: Vec::new(alloc),
-            snap: Vec::new(alloc),
+            journal: MemFile::over(alloc, Vec::new(alloc)),
+            crm_log: MemFile::over(alloc, Vec::new(alloc)),
+            snap: MemFile::over(alloc, Vec::new(alloc)),
             rows: RowList::empty(alloc),
         }
     }
 
-    pub(crate) fn bytes(&self, file: SiteFile) -> &[u8]
-        ensures { result.now ≡ bytes_of file (image_of self.now) }
+    pub(crate) fn file(&self, file: SiteFile) -> &MemFile
+        ensures { result.now ≡ file_of file self.now }
     {
         match file {
             SiteFile::Journal => &self.journal,
@@ -63,29 +43,58 @@ impl Content {
         }
     }
 
+    pub(crate) fn bytes(&self, file: SiteFile) -> &[u8]
+        ensures { result.now ≡ bytes_of file (image_of self.now) }
+    {
+        match file {
+            SiteFile::Journal => &self.journal.bytes,
+            SiteFile::CrmLog => &self.crm_log.bytes,
+            SiteFile::Snap => &self.snap.bytes,
+        }
+    }
+
     pub(crate) fn overwrite(
         &mut self,
+        alloc: Global,
         file: SiteFile,
         at: u64,
         bytes: &[u8],
     ) -> Result<(), AllocError>
-        ensures ok { OnOk result (image_of self.new ≡ with_bytes file (written (bytes_of file (image_of self.old)) at bytes.now) (image_of self.old)) }
-        ensures err { OnErr result (image_of self.new ≡ image_of self.old) }
+        requires { at ≤ length (bytes_of file (image_of self.old)) }
+        ensures ok { OnOk result (Goes (Wrote file at bytes.now) self.old self.new) }
+        ensures err { OnErr result (Same self.old self.new) }
     {
         match file {
-            SiteFile::Journal => overwrite(&mut self.journal, at, bytes),
-            SiteFile::CrmLog => overwrite(&mut self.crm_log, at, bytes),
-            SiteFile::Snap => overwrite(&mut self.snap, at, bytes),
+            SiteFile::Journal => self.journal.overwrite(alloc, at, bytes),
+            SiteFile::CrmLog => self.crm_log.overwrite(alloc, at, bytes),
+            SiteFile::Snap => self.snap.overwrite(alloc, at, bytes),
         }
     }
 
-    pub(crate) fn shorten(&mut self, file: SiteFile, len: u64)
-        ensures { image_of self.new ≡ with_bytes file (take len (bytes_of file (image_of self.old))) (image_of self.old) }
+    pub(crate) fn shorten(
+        &mut self,
+        alloc: Global,
+        file: SiteFile,
+        len: u64,
+    ) -> Result<(), AllocError>
+        requires { len ≤ length (bytes_of file (image_of self.old)) }
+        ensures ok { OnOk result (Goes (CutTo file len) self.old self.new) }
+        ensures err { OnErr result (Same self.old self.new) }
     {
         match file {
-            SiteFile::Journal => self.journal.truncate(len as usize),
-            SiteFile::CrmLog => self.crm_log.truncate(len as usize),
-            SiteFile::Snap => self.snap.truncate(len as usize),
+            SiteFile::Journal => self.journal.shorten(alloc, len),
+            SiteFile::CrmLog => self.crm_log.shorten(alloc, len),
+            SiteFile::Snap => self.snap.shorten(alloc, len),
+        }
+    }
+
+    pub(crate) fn settle(&mut self, file: SiteFile)
+        ensures { Goes (Synced file) self.old self.new }
+    {
+        match file {
+            SiteFile::Journal => self.journal.settle(),
+            SiteFile::CrmLog => self.crm_log.settle(),
+            SiteFile::Snap => self.snap.settle(),
         }
     }
 
@@ -97,8 +106,8 @@ impl Content {
         amount: u64,
     ) -> Result<(), AllocError>
         requires { amount ≤ 1000000000000000 }
-        ensures ok { OnOk result (image_of self.new ≡ with_row resource.now key.now amount (image_of self.old)) }
-        ensures err { OnErr result (image_of self.new ≡ image_of self.old) }
+        ensures ok { OnOk result (Goes (Put resource.now key.now amount) self.old self.new) }
+        ensures err { OnErr result (Same self.old self.new) }
     {
         self.rows.set(alloc, resource, key, amount)
     }

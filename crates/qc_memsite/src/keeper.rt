@@ -1,7 +1,8 @@
 // A keeper of rows in memory.
 ghost use Rattle.std.specs.Prelude.{◌≡◌, ◌⊎◌, ◌≤◌, ℕ, List, true, false, Some, None, is_err, is_some, IfOk, OnOk, OnErr, IfSome, IsErr};
 ghost use Rattle.qc_base.specs.Rows.{set_row, put_row};
-ghost use Rattle.qc_site.specs.Causes.{HasCause, Rose};
+ghost use Rattle.qc_site.specs.Causes.{HasCause};
+ghost use Rattle.qc_memsite.specs.Failures.{FailedBy};
 ghost use Rattle.qc_memsite.specs.Keepers.{rows_by};
 ghost use Rattle.qc_memsite.specs.Numbers.{is_named, Counted};
 
@@ -26,6 +27,7 @@ impl MemKeeper {
     /// A keeper without rows. The plan has the numbers of the calls that fail, from 1.
     pub fn make(alloc: Global, plan: Vec<u32>) -> Result<MemKeeper, NoMemory>
         ensures empty { IfOk result (λ m. (r k : List ℕ) → rows_by m r k ≡ None) }
+        ensures tells { IfOk result (λ m. ⟦<MemKeeper as Keeper>⟧.rows m ≡ Some (rows_by m)) }
         ensures plan { IfOk result (λ m. m.numbers.plan ≡ plan) }
         ensures made { IfOk result (λ m. m.numbers.made ≡ 0) }
         ensures faults { IfOk result (λ m. (m.account.faults ≡ 0) × (m.account.starved ≡ 0)) }
@@ -57,9 +59,10 @@ impl Keeper for MemKeeper {
         ensures failed { OnErr result (rows_by self.new ≡ rows_by self.old) }
         ensures cause { HasCause self.old.account.faults self.new.account.faults (IsErr result) }
         // It fails exactly by the plan or for want of memory.
-        ensures by_plan { OnErr result ((is_named self.old.numbers ≡ true) ⊎ Rose self.old.account.starved self.new.account.starved) }
+        ensures by_plan { OnErr result (FailedBy (is_named self.old.numbers) self.old.account.starved self.new.account.starved) }
         ensures passed { OnOk result ((is_named self.old.numbers ≡ false) × (self.new.account.starved ≡ self.old.account.starved)) }
         ensures counted { Counted self.old.numbers self.new.numbers }
+        ensures tells { ⟦<MemKeeper as Keeper>⟧.rows self.new ≡ Some (rows_by self.new) }
     {
         if self.numbers.names_next() {
             return Err(self.account.fault());
@@ -78,6 +81,7 @@ impl Keeper for MemKeeper {
         // It fails exactly by the plan.
         ensures by_plan { is_err result ≡ is_named self.old.numbers }
         ensures counted { Counted self.old.numbers self.new.numbers }
+        ensures tells { ⟦<MemKeeper as Keeper>⟧.rows self.new ≡ Some (rows_by self.new) }
         ensures fed { self.new.account.starved ≡ self.old.account.starved }
     {
         if self.numbers.names_next() {
@@ -94,6 +98,7 @@ impl Keeper for MemKeeper {
         // It fails exactly by the plan: setting a row that is there takes no memory.
         ensures by_plan { is_err result ≡ is_named self.old.numbers }
         ensures counted { Counted self.old.numbers self.new.numbers }
+        ensures tells { ⟦<MemKeeper as Keeper>⟧.rows self.new ≡ Some (rows_by self.new) }
         ensures fed { self.new.account.starved ≡ self.old.account.starved }
     {
         if self.numbers.names_next() {

@@ -1,9 +1,10 @@
 // Connections in memory, and a door for them.
 ghost use Rattle.std.specs.Prelude.{◌≡◌, ◌⊎◌, ◌+◌, ◌≤◌, ◌<◌, ◌↔◌, ◌++◌, ℕ, List, [], length, take, drop, min, true, false, Some, is_err, IfOk, OnOk, OnErr, IfSome, IsErr, IsOk};
-ghost use Rattle.qc_site.specs.Causes.{HasCause, Rose};
+ghost use Rattle.qc_site.specs.Causes.{HasCause};
 ghost use Rattle.qc_site.specs.Doors.{Comes};
 ghost use Rattle.qc_site.specs.Streams.{Takes, Appends, AppendsPart};
 ghost use Rattle.qc_memsite.specs.Doors.{links_of, Gives};
+ghost use Rattle.qc_memsite.specs.Failures.{FailedBy};
 ghost use Rattle.qc_memsite.specs.Numbers.{is_named, Counted};
 ghost use Rattle.qc_memsite.specs.Streams.{rest_of};
 
@@ -27,6 +28,7 @@ impl MemLink {
     pub fn over(bytes: Vec<u8>, plan: Vec<u32>) -> MemLink
         ensures left { rest_of result.unread ≡ bytes.items }
         ensures empty { result.written.items ≡ [] }
+        ensures tells { (⟦<MemLink as Source>⟧.left result ≡ Some bytes.items) × (⟦<MemLink as Sink>⟧.contents result ≡ Some []) }
         ensures plan { result.numbers.plan ≡ plan }
         ensures made { result.numbers.made ≡ 0 }
         ensures faults { (result.account.faults ≡ 0) × (result.account.starved ≡ 0) }
@@ -76,6 +78,8 @@ impl Source for MemLink {
         ensures fed { self.new.account.starved ≡ self.old.account.starved }
         // It gives as many bytes as fit and are there.
         ensures all { IfOk result (λ n. n ≡ min (length into.old) (length (rest_of self.old.unread))) }
+        // It still tells what is left.
+        ensures tells { ⟦<MemLink as Source>⟧.left self.new ≡ Some (rest_of self.new.unread) }
     {
         if self.numbers.names_next() {
             return Err(self.account.fault());
@@ -97,10 +101,12 @@ impl Sink for MemLink {
         ensures keeps { (rest_of self.new.unread ≡ rest_of self.old.unread) × (self.old.account.faults ≤ self.new.account.faults) }
         ensures cause { HasCause self.old.account.faults self.new.account.faults (IsErr result) }
         // It fails exactly by the plan or for want of memory, and then writes nothing.
-        ensures by_plan { OnErr result ((is_named self.old.numbers ≡ true) ⊎ Rose self.old.account.starved self.new.account.starved) }
+        ensures by_plan { OnErr result (FailedBy (is_named self.old.numbers) self.old.account.starved self.new.account.starved) }
         ensures nothing { OnErr result (self.new.written.items ≡ self.old.written.items) }
         ensures passed { OnOk result ((is_named self.old.numbers ≡ false) × (self.new.account.starved ≡ self.old.account.starved)) }
         ensures counted { Counted self.old.numbers self.new.numbers }
+        // It still tells what was written.
+        ensures tells { ⟦<MemLink as Sink>⟧.contents self.new ≡ Some self.new.written.items }
     {
         if self.numbers.names_next() {
             return Err(self.account.fault());
@@ -132,6 +138,7 @@ impl MemDoor {
     /// A door that gives these connections in order.
     pub fn over(mut links: Vec<MemLink>) -> MemDoor
         ensures links { links_of result ≡ links.items }
+        ensures tells { ⟦<MemDoor as Door>⟧.left result ≡ Some (length links.items) }
         ensures faults { (result.account.faults ≡ 0) × (result.account.starved ≡ 0) }
     {
         links.reverse();
@@ -164,6 +171,8 @@ impl Door for MemDoor {
         ensures never { IsOk result }
         ensures in_order { IfOk result (λ next. Gives next (links_of self.old) (links_of self.new)) }
         ensures fed { self.new.account.starved ≡ self.old.account.starved }
+        // It still tells how many are left.
+        ensures tells { ⟦<MemDoor as Door>⟧.left self.new ≡ Some (length (links_of self.new)) }
     {
         Ok(match self.links.pop() {
             Some(link) => Next::Link(link),

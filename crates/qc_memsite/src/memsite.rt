@@ -1,15 +1,16 @@
-// A site in memory. It keeps each call that changed it, so that its images are known at each moment.
+// A site in memory. It keeps each call that no sync has settled, so that one image of each choice can be made.
 ghost use Rattle.std.specs.Prelude.{◌≡◌, ◌⊎◌, ◌+◌, ◌≤◌, ◌<◌, ◌++◌, ℕ, List, [], ◌∷◌, length, take, drop, replicate, min, true, false, Some, None, IfOk, OnOk, OnErr, IsErr, IsErrOf};
 ghost use Rattle.qc_site.specs.Image.{Image, bytes_of, with_bytes, with_row};
 ghost use Rattle.qc_site.specs.Causes.{HasCause, Rose};
 ghost use Rattle.qc_site.specs.Disk.{written, Torn, OneStep, Cut, FileStep, RowStep, PutStep, Images, Follows, NoMore, Certain, Elapses};
-ghost use Rattle.qc_memsite.specs.Shown.{shown_by, images_by, moment_by, since_by, reads_of, noted, Unchanged};
+ghost use Rattle.qc_memsite.specs.Call.{Wrote, CutTo, Synced, Put};
+ghost use Rattle.qc_memsite.specs.Failures.{FailedBy};
+ghost use Rattle.qc_memsite.specs.Shown.{first_by, calls_by, shown_by, images_by, moment_by, since_by, reads_of, noted, Unchanged};
 ghost use Rattle.qc_memsite.specs.ChosenFile.{chosen};
 ghost use Rattle.qc_memsite.specs.Plan.{fails, AfterCall};
-ghost use Rattle.qc_memsite.specs.declared.kept.Change.TheVariants.{Wrote, CutTo, Synced, Put};
 
 use crate::account::Account;
-use crate::image::{Choice, image_kept};
+use crate::image::Choice;
 use crate::kept::Kept;
 use crate::plan::{CallKind, Plan, Trip};
 use qc_base::NoMemory;
@@ -67,6 +68,8 @@ impl MemSite {
         ensures alone { IfOk result (λ m. (c : Image) → images_by m.kept c → c ≡ shown_by m.kept) }
         ensures faults { IfOk result (λ m. (m.account.faults ≡ 0) × (m.account.starved ≡ 0)) }
         ensures no_plan { IfOk result (λ m. (kind : CallKind) → fails kind m.plan ≡ false) }
+        // It tells its content, as each site in memory does.
+        ensures told { ⟦<MemSite as Site>⟧.told }
     {
         Ok(MemSite::over(alloc, Kept::make(alloc)))
     }
@@ -101,7 +104,7 @@ impl MemSite {
         ensures faults { IfOk result (λ m. (m.account.faults ≡ 0) × (m.account.starved ≡ 0)) }
         ensures no_plan { IfOk result (λ m. (kind : CallKind) → fails kind m.plan ≡ false) }
     {
-        match image_kept(alloc, &self.kept, choice) {
+        match choice.image_kept(alloc, &self.kept) {
             Ok(kept) => Ok(MemSite::over(alloc, kept)),
             Err(_) => Err(NoMemory),
         }
@@ -136,7 +139,6 @@ impl MemSite {
 impl Site for MemSite {
     ghost use Rattle.qc_memsite.specs.Bounds.{short_image};
     ghost use Rattle.qc_memsite.specs.Laws.{shows_image, counts_now, only_now};
-    ghost use Rattle.qc_memsite.specs.Calls.{image_of};
 
     ghost told = { Unit {0} };
 
@@ -150,13 +152,13 @@ impl Site for MemSite {
 
     ghost faults = { λ m. m.account.faults };
 
-    ghost shows_image = { λ m told. shows_image (image_of m.kept.first) m.kept.calls.items };
+    ghost shows_image = { λ m told. shows_image (first_by m.kept) (calls_by m.kept) };
 
-    ghost counts_now = { λ m t c told le now. counts_now (image_of m.kept.first) m.kept.calls.items t c le now };
+    ghost counts_now = { λ m t c told le now. counts_now (first_by m.kept) (calls_by m.kept) t c le now };
 
-    ghost short_images = { λ m c told image. short_image (image_of m.kept.first) m.kept.calls.items m.kept.first_short m.kept.ends c image };
+    ghost short_images = { λ m c told image. short_image (first_by m.kept) (calls_by m.kept) m.kept.first_short m.kept.ends c image };
 
-    ghost only_now = { λ m c told since. only_now (image_of m.kept.first) m.kept.calls.items c since };
+    ghost only_now = { λ m c told since. only_now (first_by m.kept) (calls_by m.kept) c since };
 
     fn len(&mut self, file: SiteFile) -> Result<u64, Failed>
         ensures size { IfOk result (λ n. n ≡ length (bytes_of file (shown_by self.old.kept))) }
@@ -166,7 +168,7 @@ impl Site for MemSite {
         ensures time { Elapses (moment_by self.old.kept) (moment_by self.new.kept) (since_by self.old.kept) (since_by self.new.kept) (images_by self.new.kept) }
         ensures cause { HasCause self.old.account.faults self.new.account.faults (IsErr result) }
         // It fails exactly by the plan, and then changes nothing.
-        ensures failed { OnErr result (fails (CallKind.Len file) self.old.plan ≡ true) }
+        ensures failed { OnErr result ((fails (CallKind.Len file) self.old.plan ≡ true) × (self.new.account.starved ≡ self.old.account.starved)) × (self.new.account.starved ≡ self.old.account.starved) }
         ensures nothing { OnErr result (Unchanged self.old.kept self.new.kept) }
         ensures passed { OnOk result ((fails (CallKind.Len file) self.old.plan ≡ false) × (self.new.account.starved ≡ self.old.account.starved)) }
         ensures plan { AfterCall (CallKind.Len file) self.old.plan self.new.plan }
@@ -187,7 +189,7 @@ impl Site for MemSite {
         ensures time { Elapses (moment_by self.old.kept) (moment_by self.new.kept) (since_by self.old.kept) (since_by self.new.kept) (images_by self.new.kept) }
         ensures cause { HasCause self.old.account.faults self.new.account.faults (IsErr result) }
         // It fails exactly by the plan or for want of memory, and then changes nothing.
-        ensures failed { OnErr result ((fails (CallKind.Read file) self.old.plan ≡ true) ⊎ Rose self.old.account.starved self.new.account.starved) }
+        ensures failed { OnErr result (FailedBy (fails (CallKind.Read file) self.old.plan) self.old.account.starved self.new.account.starved) }
         ensures nothing { OnErr result (Unchanged self.old.kept self.new.kept) }
         ensures passed { OnOk result ((fails (CallKind.Read file) self.old.plan ≡ false) × (self.new.account.starved ≡ self.old.account.starved)) }
         ensures noted { IfOk result (λ n. (f : SiteFile) → reads_of f self.new.reads ≡ noted f file at n (reads_of f self.old.reads)) }
@@ -216,10 +218,10 @@ impl Site for MemSite {
         ensures time { Elapses (moment_by self.old.kept) (moment_by self.new.kept) (since_by self.old.kept) (since_by self.new.kept) (images_by self.new.kept) }
         ensures cause { HasCause self.old.account.faults self.new.account.faults (IsErr result) }
         // The call is noted once, so its images are all that the rules allow.
-        ensures noted { OnOk result ((v : _) × (v.items ≡ bytes.now) × (self.new.kept.calls.items ≡ self.old.kept.calls.items ++ Wrote file at v ∷ [])) }
-        ensures first { self.new.kept.first ≡ self.old.kept.first }
+        ensures noted { OnOk result (calls_by self.new.kept ≡ calls_by self.old.kept ++ Wrote file at bytes.now ∷ []) }
+        ensures first { self.new.kept.history.first ≡ self.old.kept.history.first }
         // It fails exactly by the plan, past the bound on lengths or for want of memory, and then changes nothing.
-        ensures failed { OnErr result ((fails (CallKind.Write file) self.old.plan ≡ true) ⊎ ((4611686018427387904 < at + length bytes.now) ⊎ Rose self.old.account.starved self.new.account.starved)) }
+        ensures failed { OnErr result (((4611686018427387904 < at + length bytes.now) × (self.new.account.starved ≡ self.old.account.starved)) ⊎ FailedBy (fails (CallKind.Write file) self.old.plan) self.old.account.starved self.new.account.starved) }
         ensures nothing { OnErr result (Unchanged self.old.kept self.new.kept) }
         ensures passed { OnOk result ((fails (CallKind.Write file) self.old.plan ≡ false) × (self.new.account.starved ≡ self.old.account.starved)) }
         ensures plan { AfterCall (CallKind.Write file) self.old.plan self.new.plan }
@@ -247,10 +249,10 @@ impl Site for MemSite {
         ensures time { Elapses (moment_by self.old.kept) (moment_by self.new.kept) (since_by self.old.kept) (since_by self.new.kept) (images_by self.new.kept) }
         ensures cause { HasCause self.old.account.faults self.new.account.faults (IsErr result) }
         // The call is noted once, so its images are all that the rules allow.
-        ensures noted { OnOk result (self.new.kept.calls.items ≡ self.old.kept.calls.items ++ CutTo file len ∷ []) }
-        ensures first { self.new.kept.first ≡ self.old.kept.first }
+        ensures noted { OnOk result (calls_by self.new.kept ≡ calls_by self.old.kept ++ CutTo file len ∷ []) }
+        ensures first { self.new.kept.history.first ≡ self.old.kept.history.first }
         // It fails exactly by the plan or for want of memory, and then changes nothing.
-        ensures failed { OnErr result ((fails (CallKind.Cut file) self.old.plan ≡ true) ⊎ Rose self.old.account.starved self.new.account.starved) }
+        ensures failed { OnErr result (FailedBy (fails (CallKind.Cut file) self.old.plan) self.old.account.starved self.new.account.starved) }
         ensures nothing { OnErr result (Unchanged self.old.kept self.new.kept) }
         ensures passed { OnOk result ((fails (CallKind.Cut file) self.old.plan ≡ false) × (self.new.account.starved ≡ self.old.account.starved)) }
         ensures plan { AfterCall (CallKind.Cut file) self.old.plan self.new.plan }
@@ -272,10 +274,10 @@ impl Site for MemSite {
         ensures time { Elapses (moment_by self.old.kept) (moment_by self.new.kept) (since_by self.old.kept) (since_by self.new.kept) (images_by self.new.kept) }
         ensures cause { HasCause self.old.account.faults self.new.account.faults (IsErr result) }
         // The call is noted once, so its images are all that the rules allow.
-        ensures noted { OnOk result (self.new.kept.calls.items ≡ self.old.kept.calls.items ++ Synced file ∷ []) }
-        ensures first { self.new.kept.first ≡ self.old.kept.first }
+        ensures noted { OnOk result (calls_by self.new.kept ≡ calls_by self.old.kept ++ Synced file ∷ []) }
+        ensures first { self.new.kept.history.first ≡ self.old.kept.history.first }
         // It fails exactly by the plan or for want of memory, and then changes nothing.
-        ensures failed { OnErr result ((fails (CallKind.Sync file) self.old.plan ≡ true) ⊎ Rose self.old.account.starved self.new.account.starved) }
+        ensures failed { OnErr result ((fails (CallKind.Sync file) self.old.plan ≡ true) × (self.new.account.starved ≡ self.old.account.starved)) }
         ensures nothing { OnErr result (Unchanged self.old.kept self.new.kept) }
         ensures passed { OnOk result ((fails (CallKind.Sync file) self.old.plan ≡ false) × (self.new.account.starved ≡ self.old.account.starved)) }
         ensures plan { AfterCall (CallKind.Sync file) self.old.plan self.new.plan }
@@ -284,9 +286,7 @@ impl Site for MemSite {
         if self.plan.trips(CallKind::Sync(file)) {
             return Err(self.account.fault());
         }
-        let Ok(()) = self.kept.sync(file) else {
-            return Err(self.account.starve());
-        };
+        self.kept.sync(file);
         Ok(())
     }
 
@@ -298,10 +298,10 @@ impl Site for MemSite {
         ensures time { Elapses (moment_by self.old.kept) (moment_by self.new.kept) (since_by self.old.kept) (since_by self.new.kept) (images_by self.new.kept) }
         ensures cause { HasCause self.old.account.faults self.new.account.faults (IsErr result) }
         // The call is noted once, so its images are all that the rules allow.
-        ensures noted { OnOk result ((r : _) × (k : _) × (r.items ≡ resource.now) × (k.items ≡ key.now) × (self.new.kept.calls.items ≡ self.old.kept.calls.items ++ Put r k amount ∷ [])) }
-        ensures first { self.new.kept.first ≡ self.old.kept.first }
+        ensures noted { OnOk result (calls_by self.new.kept ≡ calls_by self.old.kept ++ Put resource.now key.now amount ∷ []) }
+        ensures first { self.new.kept.history.first ≡ self.old.kept.history.first }
         // It fails exactly by the plan or for want of memory, and then changes nothing.
-        ensures failed { OnErr result ((fails (CallKind.RowMake) self.old.plan ≡ true) ⊎ Rose self.old.account.starved self.new.account.starved) }
+        ensures failed { OnErr result (FailedBy (fails (CallKind.RowMake) self.old.plan) self.old.account.starved self.new.account.starved) }
         ensures nothing { OnErr result (Unchanged self.old.kept self.new.kept) }
         ensures passed { OnOk result ((fails (CallKind.RowMake) self.old.plan ≡ false) × (self.new.account.starved ≡ self.old.account.starved)) }
         ensures plan { AfterCall (CallKind.RowMake) self.old.plan self.new.plan }
@@ -325,7 +325,7 @@ impl Site for MemSite {
         ensures time { Elapses (moment_by self.old.kept) (moment_by self.new.kept) (since_by self.old.kept) (since_by self.new.kept) (images_by self.new.kept) }
         ensures cause { HasCause self.old.account.faults self.new.account.faults (IsErrOf result RowFault.Failed) }
         // It fails exactly by the plan, and then changes nothing.
-        ensures failed { IsErrOf result RowFault.Failed → (fails (CallKind.RowGet) self.old.plan ≡ true) }
+        ensures failed { IsErrOf result RowFault.Failed → (fails (CallKind.RowGet) self.old.plan ≡ true) × (self.new.account.starved ≡ self.old.account.starved) }
         ensures nothing { OnErr result (Unchanged self.old.kept self.new.kept) }
         ensures passed { OnOk result ((fails (CallKind.RowGet) self.old.plan ≡ false) × (self.new.account.starved ≡ self.old.account.starved)) }
         ensures passed_no_row { IsErrOf result RowFault.NoRow → (fails (CallKind.RowGet) self.old.plan ≡ false) × (self.new.account.starved ≡ self.old.account.starved) }
@@ -353,10 +353,10 @@ impl Site for MemSite {
         ensures time { Elapses (moment_by self.old.kept) (moment_by self.new.kept) (since_by self.old.kept) (since_by self.new.kept) (images_by self.new.kept) }
         ensures cause { HasCause self.old.account.faults self.new.account.faults (IsErrOf result RowFault.Failed) }
         // The call is noted once, so its images are all that the rules allow.
-        ensures noted { OnOk result ((r : _) × (k : _) × (r.items ≡ resource.now) × (k.items ≡ key.now) × (self.new.kept.calls.items ≡ self.old.kept.calls.items ++ Put r k amount ∷ [])) }
-        ensures first { self.new.kept.first ≡ self.old.kept.first }
+        ensures noted { OnOk result (calls_by self.new.kept ≡ calls_by self.old.kept ++ Put resource.now key.now amount ∷ []) }
+        ensures first { self.new.kept.history.first ≡ self.old.kept.history.first }
         // It fails exactly by the plan or for want of memory, and then changes nothing.
-        ensures failed { IsErrOf result RowFault.Failed → (fails (CallKind.RowPut) self.old.plan ≡ true) ⊎ Rose self.old.account.starved self.new.account.starved }
+        ensures failed { IsErrOf result RowFault.Failed → FailedBy (fails (CallKind.RowPut) self.old.plan) self.old.account.starved self.new.account.starved }
         ensures nothing { OnErr result (Unchanged self.old.kept self.new.kept) }
         ensures passed { OnOk result ((fails (CallKind.RowPut) self.old.plan ≡ false) × (self.new.account.starved ≡ self.old.account.starved)) }
         ensures passed_no_row { IsErrOf result RowFault.NoRow → (fails (CallKind.RowPut) self.old.plan ≡ false) × (self.new.account.starved ≡ self.old.account.starved) }

@@ -1,7 +1,8 @@
 // A source and a sink in memory.
 ghost use Rattle.std.specs.Prelude.{◌≡◌, ◌⊎◌, ◌+◌, ◌≤◌, ◌<◌, ◌↔◌, ◌++◌, ℕ, List, [], length, take, drop, min, true, false, Some, is_err, IfOk, OnOk, OnErr, IfSome, IsErr};
-ghost use Rattle.qc_site.specs.Causes.{HasCause, Rose};
+ghost use Rattle.qc_site.specs.Causes.{HasCause};
 ghost use Rattle.qc_site.specs.Streams.{Takes, Appends, AppendsPart};
+ghost use Rattle.qc_memsite.specs.Failures.{FailedBy};
 ghost use Rattle.qc_memsite.specs.Numbers.{is_named, Counted};
 
 use crate::account::Account;
@@ -54,6 +55,7 @@ impl MemSource {
     /// A source of these bytes. The plan has the numbers of the calls that fail, from 1.
     pub fn over(bytes: Vec<u8>, plan: Vec<u32>) -> MemSource
         ensures left { rest_of result.unread ≡ bytes.items }
+        ensures tells { ⟦<MemSource as Source>⟧.left result ≡ Some bytes.items }
         ensures plan { result.numbers.plan ≡ plan }
         ensures made { result.numbers.made ≡ 0 }
         ensures faults { (result.account.faults ≡ 0) × (result.account.starved ≡ 0) }
@@ -95,6 +97,8 @@ impl Source for MemSource {
         ensures fed { self.new.account.starved ≡ self.old.account.starved }
         // It gives as many bytes as fit and are there.
         ensures all { IfOk result (λ n. n ≡ min (length into.old) (length (rest_of self.old.unread))) }
+        // It still tells what is left.
+        ensures tells { ⟦<MemSource as Source>⟧.left self.new ≡ Some (rest_of self.new.unread) }
     {
         if self.numbers.names_next() {
             return Err(self.account.fault());
@@ -115,6 +119,7 @@ impl MemSink {
     /// An empty sink. The plan has the numbers of the calls that fail, from 1.
     pub fn make(alloc: Global, plan: Vec<u32>) -> Result<MemSink, NoMemory>
         ensures empty { IfOk result (λ s. s.bytes.items ≡ []) }
+        ensures tells { IfOk result (λ s. ⟦<MemSink as Sink>⟧.contents s ≡ Some []) }
         ensures plan { IfOk result (λ s. s.numbers.plan ≡ plan) }
         ensures made { IfOk result (λ s. s.numbers.made ≡ 0) }
         ensures faults { IfOk result (λ s. (s.account.faults ≡ 0) × (s.account.starved ≡ 0)) }
@@ -153,10 +158,12 @@ impl Sink for MemSink {
         ensures failed { OnErr result (AppendsPart bytes.now (Some self.new.bytes.items) self.old.bytes.items) }
         ensures cause { HasCause self.old.account.faults self.new.account.faults (IsErr result) }
         // It fails exactly by the plan or for want of memory, and then writes nothing.
-        ensures by_plan { OnErr result ((is_named self.old.numbers ≡ true) ⊎ Rose self.old.account.starved self.new.account.starved) }
+        ensures by_plan { OnErr result (FailedBy (is_named self.old.numbers) self.old.account.starved self.new.account.starved) }
         ensures nothing { OnErr result (self.new.bytes.items ≡ self.old.bytes.items) }
         ensures passed { OnOk result ((is_named self.old.numbers ≡ false) × (self.new.account.starved ≡ self.old.account.starved)) }
         ensures counted { Counted self.old.numbers self.new.numbers }
+        // It still tells what it holds.
+        ensures tells { ⟦<MemSink as Sink>⟧.contents self.new ≡ Some self.new.bytes.items }
     {
         if self.numbers.names_next() {
             return Err(self.account.fault());

@@ -13,6 +13,15 @@ pub struct FixedClock {
     pub seconds: u64,
 }
 
+impl FixedClock {
+    /// The same again.
+    pub fn copy(&self) -> FixedClock
+        ensures { result ≡ self.now }
+    {
+        *self
+    }
+}
+
 impl Clock for FixedClock {
     fn now(&self) -> u64
         ensures { result ≡ self.now.seconds }

@@ -5,7 +5,7 @@ use Rattle.serde_json.specs.Data.{Data, Members}
 use Rattle.serde_json.specs.Find.{as_object}
 use Rattle.serde_json.specs.View.{view, items_view, members_view}
 use Rattle.serde_json.specs.declared.value.Value.{Value}
-use Rattle.qc_base.specs.declared.order.Member.{Member}
+use Rattle.qc_protocol.specs.declared.order.Member.{Member}
 use Rattle.qc_orders.specs.Orders.{arg_of, args_of, is_among, all_among, has_only}
 
 pub args_of-items_view : (vs : List Value) → args_of (items_view vs) ≡ map (λ v. arg_of (view v)) vs

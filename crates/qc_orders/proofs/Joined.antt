@@ -1,7 +1,7 @@
 -- Pieces with a separator between each two.
 use Rattle.std.proofs.Common.{◌≡◌, ℕ, List, [], ◌∷◌, ◌++◌, map, flat_map, ap, sym, ◌∙◌, append_assoc}
 use Rattle.std.proofs.lemmas.List.{append-nil}
-use Rattle.qc_base.specs.Texts.{join_with}
+use Rattle.qc_protocol.specs.Texts.{join_with}
 
 -- a first piece, and the others each behind a separator
 pub join_with-cons : {A : Type 0} (by : List ℕ) (text : A → List ℕ) (x : A) (xs : List A)

@@ -1,3 +1,4 @@
 mod Items
 mod Joined
+mod Rows
 mod Values

@@ -2,10 +2,10 @@
 ghost use Rattle.std.specs.Prelude.{◌≡◌, IfOk, option_and_then};
 ghost use Rattle.serde_json.specs.Find.{as_array};
 ghost use Rattle.serde_json.specs.View.{view, items_view};
-ghost use Rattle.qc_orders.specs.Orders.{arg_of, args_of, call_in, call_of, calls_in, calls_at};
+ghost use Rattle.qc_orders.specs.Orders.{arg_of, args_of, args_in, call_in, call_of, calls_of, calls_in};
 
-use crate::members::value_at;
-use qc_base::{Member, NoMemory, RawArg, RawArgs, RawCall, RawCalls, Word};
+use qc_base::{NoMemory, Word};
+use qc_protocol::{RawArg, RawArgs, RawCall, RawCalls};
 use serde_json::Value;
 use std::alloc::Global;
 
@@ -28,7 +28,7 @@ fn read_arg(alloc: Global, value: &Value) -> Result<RawArg, NoMemory>
     }
 }
 
-fn read_args(alloc: Global, values: &[Value]) -> Result<RawArgs, NoMemory>
+fn args_of(alloc: Global, values: &[Value]) -> Result<RawArgs, NoMemory>
     ensures { IfOk result (λ args. args ≡ args_of (items_view values.now)) }
 {
     let mut args = Vec::new(alloc);
@@ -37,6 +37,16 @@ fn read_args(alloc: Global, values: &[Value]) -> Result<RawArgs, NoMemory>
         args.push(arg).map_err(|_| NoMemory)?;
     }
     Ok(RawArgs::over(args))
+}
+
+/// The items of a list, as arguments, or None where the value is no list.
+pub fn read_args(alloc: Global, value: &Value) -> Result<Option<RawArgs>, NoMemory>
+    ensures { IfOk result (λ args. args ≡ args_in (view value.now)) }
+{
+    match value.as_array() {
+        Some(values) => Ok(Some(args_of(alloc, values.as_slice())?)),
+        None => Ok(None),
+    }
 }
 
 fn call_in(alloc: Global, values: &[Value]) -> Result<Option<RawCall>, NoMemory>
@@ -49,7 +59,7 @@ fn call_in(alloc: Global, values: &[Value]) -> Result<Option<RawCall>, NoMemory>
         return Ok(None);
     };
     let method = copied(alloc, text)?;
-    let args = read_args(alloc, rest)?;
+    let args = args_of(alloc, rest)?;
     Ok(Some(RawCall { method, args }))
 }
 
@@ -62,8 +72,8 @@ fn read_call(alloc: Global, value: &Value) -> Result<Option<RawCall>, NoMemory>
     }
 }
 
-fn calls_in(alloc: Global, values: &[Value]) -> Result<Option<RawCalls>, NoMemory>
-    ensures { IfOk result (λ calls. calls ≡ calls_in (items_view values.now)) }
+fn calls_of(alloc: Global, values: &[Value]) -> Result<Option<RawCalls>, NoMemory>
+    ensures { IfOk result (λ calls. calls ≡ calls_of (items_view values.now)) }
 {
     let mut calls = Vec::new(alloc);
     for value in values {
@@ -75,11 +85,12 @@ fn calls_in(alloc: Global, values: &[Value]) -> Result<Option<RawCalls>, NoMemor
     Ok(Some(RawCalls::over(calls)))
 }
 
-pub fn calls_at(alloc: Global, member: Member, value: &Value) -> Result<Option<RawCalls>, NoMemory>
-    ensures { IfOk result (λ calls. calls ≡ calls_at member (view value.now)) }
+/// The items of a list, as calls, or None where the value is no list or one item is no call.
+pub fn read_calls(alloc: Global, value: &Value) -> Result<Option<RawCalls>, NoMemory>
+    ensures { IfOk result (λ calls. calls ≡ calls_in (view value.now)) }
 {
-    match value_at(member, value).and_then(Value::as_array) {
-        Some(values) => calls_in(alloc, values.as_slice()),
+    match value.as_array() {
+        Some(values) => calls_of(alloc, values.as_slice()),
         None => Ok(None),
     }
 }

@@ -1,11 +1,12 @@
 // Queues and rows as text.
 ghost use Rattle.std.specs.Prelude.{◌≡◌, ◌++◌, OnOk, decimal, map};
-ghost use Rattle.qc_base.specs.Texts.{after_space, queue_name, waiting_text, queue_text, queues_text, amount_text, row_text, rows_text};
+ghost use Rattle.qc_protocol.specs.Texts.{after_space, queue_name, waiting_text, queue_text, queues_text, amount_text, row_text, rows_text};
 
 use crate::text::{
     Show, put, put_after_space, put_bytes, put_number, put_numbered, put_quoted, put_total,
 };
-use qc_base::{Amount, Ids, Name, NoMemory, Queue, Queues, ShownRow, ShownRows, Waiting};
+use qc_base::{Amount, Ids, Name, NoMemory, Queue, Queues, Waiting};
+use qc_protocol::{ShownRow, ShownRows};
 
 impl Show for u64 {
     ghost text = { decimal };

@@ -1,6 +1,6 @@
 // Notices and reasons as text.
 ghost use Rattle.std.specs.Prelude.{◌≡◌, ◌++◌, OnOk, codes};
-ghost use Rattle.qc_base.specs.Texts.{kind_text, bool_text, outcome_text, heard_text, notice_text, notices_text, why_text};
+ghost use Rattle.qc_protocol.specs.Texts.{kind_text, bool_text, outcome_text, heard_text, notice_text, notices_text, why_text};
 
 use crate::text::{Show, put, put_between, put_bytes, put_joined, put_numbered};
 use qc_base::{Heard, Kind, NoMemory, Notice, Notices, Why};

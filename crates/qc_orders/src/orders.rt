@@ -1,77 +1,18 @@
-// Lines as orders: a function for each verb, which reads the verb's members in turn.
-ghost use Rattle.std.specs.Prelude.{◌≡◌, IfOk};
+// Lines as orders.
+ghost use Rattle.std.specs.Prelude.{◌≡◌};
 ghost use Rattle.serde_json.specs.View.{view};
-ghost use Rattle.qc_base.specs.Texts.{is_blank};
-ghost use Rattle.qc_orders.specs.Orders.{asked, send_of, queues_of, asked_by, order_of};
+ghost use Rattle.qc_protocol.specs.Texts.{is_blank};
+ghost use Rattle.qc_orders.specs.Orders.{order_in, Tells, TellsLine};
 
-use crate::calls::{calls_at, copied};
-use crate::members::{has_only, moment_at, read_value, text_at};
-use qc_base::{Act, Member, Moment, NoMemory, Order};
-use serde_json::Value;
+use crate::error::OrderError;
+use crate::members::read_value;
+use crate::object::Object;
+use qc_base::Moment;
+use qc_protocol::{Member, Order};
 use std::alloc::Global;
 
-const SEND: [Member; 5] = [
-    Member::At,
-    Member::Do,
-    Member::App,
-    Member::Component,
-    Member::Calls,
-];
-
-const QUEUES: [Member; 3] = [Member::At, Member::Do, Member::App];
-
-fn read_send(alloc: Global, at: Moment, value: &Value) -> Result<Option<Order>, NoMemory>
-    ensures { IfOk result (λ o. asked o ≡ send_of at (view value.now)) }
-{
-    let Some(app) = text_at(Member::App, value) else {
-        return Ok(None);
-    };
-    let Some(component) = text_at(Member::Component, value) else {
-        return Ok(None);
-    };
-    let Some(calls) = calls_at(alloc, Member::Calls, value)? else {
-        return Ok(None);
-    };
-    if !has_only(&SEND, value) {
-        return Ok(None);
-    }
-    let app = copied(alloc, app)?;
-    let component = copied(alloc, component)?;
-    let act = Act::Send(app, component, calls);
-    Ok(Some(Order { at, act }))
-}
-
-fn read_queues(alloc: Global, at: Moment, value: &Value) -> Result<Option<Order>, NoMemory>
-    ensures { IfOk result (λ o. asked o ≡ queues_of at (view value.now)) }
-{
-    let Some(app) = text_at(Member::App, value) else {
-        return Ok(None);
-    };
-    if !has_only(&QUEUES, value) {
-        return Ok(None);
-    }
-    let app = copied(alloc, app)?;
-    let act = Act::Queues(app);
-    Ok(Some(Order { at, act }))
-}
-
-fn read_object(alloc: Global, value: &Value) -> Result<Option<Order>, NoMemory>
-    ensures { IfOk result (λ o. asked o ≡ asked_by (view value.now)) }
-{
-    let Some(at) = moment_at(Member::At, value) else {
-        return Ok(None);
-    };
-    let Some(verb) = text_at(Member::Do, value) else {
-        return Ok(None);
-    };
-    if verb == "send" {
-        return read_send(alloc, at, value);
-    }
-    if verb == "queues" {
-        return read_queues(alloc, at, value);
-    }
-    Ok(None)
-}
+/// In bytes, without the byte 10 that ends a line.
+const LONGEST_LINE: usize = 65_536;
 
 /// Whether a line has nothing but spaces, tabs and carriage returns (docs/FORMATS.md, "Order lines").
 pub fn is_blank(line: &[u8]) -> bool
@@ -81,13 +22,32 @@ pub fn is_blank(line: &[u8]) -> bool
         .all(|b| *b == b' ' || (*b == b'\t' || *b == b'\r'))
 }
 
-/// The order that a line says, without its byte 10, or None where it says none that is read
-/// (docs/FORMATS.md, "Order lines"). The line may have any length. The one error is want of memory.
-pub fn read_order(alloc: Global, line: &[u8]) -> Result<Option<Order>, NoMemory>
-    ensures { IfOk result (λ o. asked o ≡ order_of line.now) }
+/// The order of a text, which has the moment itself where none is handed in.
+fn read_text(alloc: Global, text: &[u8], moment: Option<Moment>) -> Result<Order, OrderError>
+    ensures { Tells result (order_in moment text.now) }
 {
-    match read_value(alloc, line)? {
-        Some(value) => read_object(alloc, &value),
-        None => Ok(None),
+    let Some(value) = read_value(alloc, text)? else {
+        return Err(OrderError::Malformed(Member::Line));
+    };
+    if !value.is_object() {
+        return Err(OrderError::Malformed(Member::Line));
     }
+    let object = Object {
+        value: &value,
+        moment,
+    };
+    object.order(alloc)
+}
+
+/// The order that a line says, without its byte 10 (docs/FORMATS.md, "Order lines"). The line may have any length.
+///
+/// `LineTooLong` comes exactly where it has more than 65,536 bytes. `Malformed` comes exactly where a shorter line is
+/// no order, with the first member at fault. `NoMemory` may come for any line.
+pub fn read_order(alloc: Global, line: &[u8]) -> Result<Order, OrderError>
+    ensures { TellsLine result line.now }
+{
+    if line.len() > LONGEST_LINE {
+        return Err(OrderError::LineTooLong);
+    }
+    read_text(alloc, line, None)
 }

@@ -1,10 +1,11 @@
 // Refusals as text.
 ghost use Rattle.std.specs.Prelude.{◌≡◌, ◌++◌, OnOk, codes, decimal};
-ghost use Rattle.qc_base.specs.Refusals.{stage_text, side_text, moment_text, refusal_text};
+ghost use Rattle.qc_protocol.specs.Refusals.{stage_text, side_text, moment_text, refusal_text};
 
 use crate::members::member_name;
 use crate::text::{put, put_number, put_numbered, put_pair, put_two};
-use qc_base::{Moment, NoMemory, Refusal, Side, Stage};
+use qc_base::{Moment, NoMemory, Stage};
+use qc_protocol::{Refusal, Side};
 
 fn stage_name(stage: Stage) -> &'static str
     ensures { result.now ≡ stage_text stage }

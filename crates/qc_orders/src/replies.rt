@@ -1,12 +1,13 @@
 // Replies as text.
 ghost use Rattle.std.specs.Prelude.{◌≡◌, ◌++◌, IfOk, OnOk, codes, decimal};
-ghost use Rattle.qc_base.specs.Texts.{attempt_text, kind_text, notices_text, reply_text, recovered_text};
+ghost use Rattle.qc_protocol.specs.Texts.{attempt_text, kind_text, notices_text, reply_text, recovered_text};
 
 use crate::listings::{put_queues, put_rows};
 use crate::notices::{kind_name, outcome_name, put_heard, put_why};
 use crate::refusals::put_refusal;
 use crate::text::{put, put_bytes, put_numbered, put_pair};
-use qc_base::{Kind, NoMemory, Notices, Recovered, Reply};
+use qc_base::{Kind, NoMemory, Notices, Recovered};
+use qc_protocol::Reply;
 use std::alloc::Global;
 
 /// An attempt's number, with its spaces.

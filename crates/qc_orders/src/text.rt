@@ -1,6 +1,6 @@
 // Texts that grow at their end. Where memory is wanting, a part may have been added.
 ghost use Rattle.std.specs.Prelude.{◌≡◌, ◌++◌, List, ℕ, OnOk, codes, decimal, map, flat_map, [], ◌∷◌};
-ghost use Rattle.qc_base.specs.Texts.{join_with, after_space, escaped_byte, quoted_text};
+ghost use Rattle.qc_protocol.specs.Texts.{join_with, after_space, escaped_byte, quoted_text};
 
 use itoa::Buffer;
 use qc_base::NoMemory;

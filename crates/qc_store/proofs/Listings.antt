@@ -19,8 +19,9 @@ use denote.Param.Members.{Mut}
 use Rattle.qc_base.specs.declared.fact.Place.{Place}
 use Rattle.qc_base.specs.declared.fact.Place.TheVariants.{Queue, Dead, Consumed}
 use Rattle.qc_base.specs.declared.message.Message.{Message}
-use Rattle.qc_base.specs.declared.reply.Waiting.{Waiting}
+use Rattle.qc_base.specs.declared.queue.Waiting.{Waiting}
 use Rattle.qc_base.specs.Messages.{comes_before, in_queue, waiting_as, of_app, listing, is_consumed, consumed_ids}
+use Rattle.qc_store.specs.Own.{AreOwn}
 use Rattle.qc_store.specs.Stored.{IdsRise}
 use Rattle.qc_store.proofs.InOrder.{IsStrictlyOrdered, in_order_is}
 
@@ -150,7 +151,14 @@ listed {g = g} {f = f} app queue ms ys up same sorted called =
 
 -- consumed messages
 
+abbrev consumes : Message → Bool
+consumes m = is_consumed m.place
+
+ids_counted : (app : List ℕ) (ms : List Message) → count_by consumes (of_app app ms) ≡ length (consumed_ids app ms)
+ids_counted app ms = sym (length-filter consumes (of_app app ms)) ∙ sym (length-map (filter consumes (of_app app ms)) (λ (m : Message). m.id))
+
 pub consumed_counted : (app : List ℕ) (ms : List Message) → count_by (λ (m : Message). bytes_eq m.recording.app app && is_consumed m.place) ms ≡ length (consumed_ids app ms)
-consumed_counted app ms =
-    let kept = filter (λ (m : Message). is_consumed m.place) (of_app app ms) in
-    count_both (λ (m : Message). bytes_eq m.recording.app app) (λ (m : Message). is_consumed m.place) ms ∙ sym (length-filter (λ (m : Message). is_consumed m.place) (of_app app ms)) ∙ sym (length-map kept (λ (m : Message). m.id))
+consumed_counted app ms = count_both (λ (m : Message). bytes_eq m.recording.app app) consumes ms ∙ ids_counted app ms
+
+pub own_counted : (app : List ℕ) (ms : List Message) (own : List (Bor Message)) → AreOwn app ms own → count_by (λ (r : Bor Message). is_consumed r.now.place) own ≡ length (consumed_ids app ms)
+own_counted app ms own given = sym (count_map consumes (λ (r : Bor Message). r.now) own) ∙ ap (count_by consumes) given.1 ∙ ids_counted app ms

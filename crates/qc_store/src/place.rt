@@ -1,8 +1,16 @@
-// What the place of a message says of a listing.
+// What a message says of a listing.
 ghost use Rattle.std.specs.Prelude.{◌≡◌};
+ghost use Rattle.std.specs.Str.{bytes_eq};
 ghost use Rattle.qc_base.specs.Messages.{in_queue, is_consumed, waiting_as};
 
 use qc_base::{Message, Moment, Place, Waiting};
+
+/// Whether it is a message of the application.
+pub(crate) fn is_own(message: &Message, app: &[u8]) -> bool
+    ensures { result ≡ bytes_eq message.now.recording.app app.now }
+{
+    message.recording.app.as_bytes() == app
+}
 
 /// Whether it is in the queue. Queue 6 is the dead queue.
 pub(crate) fn is_in_queue(place: Place, queue: u8) -> bool

@@ -1,10 +1,11 @@
 // The messages in order of their ids.
 ghost use Rattle.std.specs.Prelude.{◌≡◌, ℕ, ◌+◌, ◌^◌, ◌<◌, ◌≤◌, [], ◌∷◌, ◌++◌, length, All, IfOk, OnOk, OnErr};
-ghost use Rattle.qc_base.specs.Messages.{after_sent, listing, consumed_ids};
+ghost use Rattle.qc_base.specs.Messages.{after_sent, consumed_ids};
+ghost use Rattle.qc_store.specs.Own.{AreOwn};
 ghost use Rattle.qc_store.specs.Stored.{IdsRise};
 
-use crate::place::{is_consumed, is_in_queue, waiting};
-use qc_base::{Message, Moment, NoMemory, Place, Queue, Recording};
+use crate::place::{is_consumed, is_own};
+use qc_base::{Message, Moment, NoMemory, Place, Recording};
 use std::alloc::Global;
 use std::marker::Model;
 
@@ -85,28 +86,26 @@ impl Store {
         self.messages.len() as u64
     }
 
-    /// The messages of an application in one of the queues 0 to 5, by due moment and then by id, or
-    /// in the dead queue, which is queue 6, by id (docs/RULES.md, "Places").
-    pub fn queue_list(&self, alloc: Global, app: &[u8], queue: u8) -> Result<Queue, NoMemory>
-        ensures { IfOk result (λ list. list ≡ listing app.now queue self.now.messages) }
-    {
-        let mut list = Vec::new(alloc);
-        for message in self.messages.iter() {
-            if message.recording.app.as_bytes() == app && is_in_queue(message.place, queue) {
-                list.push(waiting(message)).map_err(|_| NoMemory)?;
-            }
-        }
-        list.sort_unstable_by_key(|entry| (entry.due.get(), entry.id));
-        Ok(Queue::over(list))
-    }
-
     /// How many messages of an application are consumed.
     pub fn consumed(&self, app: &[u8]) -> u64
         ensures { result ≡ length (consumed_ids app.now self.now.messages) }
     {
         self.messages
             .iter()
-            .filter(|message| message.recording.app.as_bytes() == app && is_consumed(message.place))
+            .filter(|message| is_own(message, app) && is_consumed(message.place))
             .count() as u64
+    }
+
+    /// The messages of an application, in order of their ids.
+    pub(crate) fn own(&self, alloc: Global, app: &[u8]) -> Result<Vec<&Message>, NoMemory>
+        ensures { IfOk result (λ own. AreOwn app.now self.now.messages own.items) }
+    {
+        let mut own = Vec::new(alloc);
+        for message in self.messages.iter() {
+            if is_own(message, app) {
+                own.push(message).map_err(|_| NoMemory)?;
+            }
+        }
+        Ok(own)
     }
 }

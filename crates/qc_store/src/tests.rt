@@ -113,6 +113,14 @@ fn queues_are_listed_by_due_moment_and_then_by_id(rt: HostRuntime) -> Result<(),
     assert_eq!(rt; store.consumed(b"Orders"), 1);
     assert_eq!(rt; store.consumed(b"Billing"), 0);
     assert_eq!(rt; store.len(), 8);
+    let all = store.list(alloc, b"Orders")?;
+    assert_eq!(rt; all.queues.as_slice().len(), 6);
+    assert!(rt; all.dead.as_slice() == [5, 8].as_slice());
+    assert_eq!(rt; all.consumed, 1);
+    let none = store.list(alloc, b"Nobody")?;
+    assert_eq!(rt; none.queues.as_slice().len(), 6);
+    assert!(rt; none.dead.as_slice().is_empty());
+    assert_eq!(rt; none.consumed, 0);
     Ok(())
 }
 

@@ -1,23 +1,19 @@
 //! The program: it carries out the words of its command line over standard input and output, and ends with the status.
 //!
-//! All that it does is `run` of `qc_drill`. What is made here is what `run` is lent: a site in memory with an empty
-//! journal, and the two streams (docs/RULES.md, "The program"). Nothing is written to standard error.
+//! All that it does is `run` of `qc_drill`. What is made here is what `run` is lent: a site in memory, and the two
+//! streams (docs/RULES.md, "The program"). `program` says by which causes it ends, over any site and streams. Nothing is
+//! written to standard error.
 #![tactic(auto)]
 
-ghost use Rattle.std.specs.Prelude.{◌≡◌, ◌⊎◌, ◌++◌, ◌∷◌, ℕ, List, [], None, IfOk, OnErr, Err};
-ghost use Rattle.std.specs.Process.{exit_status};
-ghost use Rattle.qc_base.specs.Statuses.{status_code};
-ghost use Rattle.qc_memsite.specs.Shown.{shown_by};
-ghost use Rattle.qc_journal.specs.History.{journal_header};
+ghost use Rattle.std.specs.Prelude.{◌≡◌, ◌⊎◌, OnErr, Err};
 
+mod program;
 mod streams;
 
+use crate::program::{carry_out, exit_code};
 use crate::streams::{StdSink, StdSource};
-use qc_base::Status;
-use qc_drill::run;
-use qc_journal::Journal;
 use qc_memsite::MemSite;
-use std::alloc::Global;
+use qc_protocol::Status;
 use std::env;
 use std::io::ErrorKind;
 use std::process::ExitCode;
@@ -38,34 +34,15 @@ fn words_of<R: env::Env + AllocGlobal>(rt: &R) -> Result<Vec<String>, Status>
     }
 }
 
-// An empty site with a journal without facts.
-fn new_site(alloc: Global) -> Result<MemSite, Status>
-    ensures journal { IfOk result (λ site. (shown_by site.kept).journal ≡ journal_header ++ 0 ∷ []) }
-    ensures rows { IfOk result (λ site. (r k : List ℕ) → (shown_by site.kept).rows r k ≡ None) }
-    ensures refused { OnErr result ((result ≡ Err Status.SiteFault) ⊎ (result ≡ Err Status.NoMemory)) }
-{
-    let mut site = MemSite::make(alloc).map_err(|_| Status::NoMemory)?;
-    Journal::make(&mut site).map_err(|_| Status::SiteFault)?;
-    Ok(site)
-}
-
-// The status, also where nothing could be made.
-fn carry_out(rt: &HostRuntime) -> Result<Status, Status> {
-    let words = words_of(rt)?;
-    let mut site = new_site(rt.alloc())?;
+fn main(rt: HostRuntime) -> ExitCode {
+    let words = match words_of(&rt) {
+        Ok(words) => words,
+        Err(status) => return exit_code(status),
+    };
+    let Ok(mut site) = MemSite::make(rt.alloc()) else {
+        return exit_code(Status::NoMemory);
+    };
     let mut source = StdSource::over(rt.stdin());
     let mut sink = StdSink::over(rt.stdout());
-    Ok(run(rt.alloc(), &words, &mut site, &mut source, &mut sink))
-}
-
-fn exit_code(status: Status) -> ExitCode
-    ensures { exit_status result ≡ status_code status }
-{
-    ExitCode::from(status.code())
-}
-
-fn main(rt: HostRuntime) -> ExitCode {
-    match carry_out(&rt) {
-        Ok(status) | Err(status) => exit_code(status),
-    }
+    carry_out(rt.alloc(), &words, &mut site, &mut source, &mut sink)
 }

@@ -17,12 +17,16 @@ force_and_read-requires-clause-stands g c =
     let log : LogView = c.in_ok-log.log in
     stands_reserved site.told (site.shown now) (site.may_leave now) log c.reserve.new.self (max log.spare (length c.args.first.now + length c.args.second.now + 8)) c.in_ok-reserve.ensures.ok c.in_ok-log.ensures.stands
 
-pub force_and_read-requires-clause-room : goal.force_and_read-requires-clause-room
-force_and_read-requires-clause-room g c =
+pub force_and_read-requires-clause-can : goal.force_and_read-requires-clause-can
+force_and_read-requires-clause-can g c =
     let items : c.deref.result.now ≡ c.args.first.now ∷ c.args.second.now ∷ [] = search rules in
-    omega (arith, two_long c.deref.result.now c.args.first.now c.args.second.now items, ap (λ (l : LogView). l.spare) c.in_ok-reserve.ensures.ok)
-
-pub force_and_read-requires-clause-fits : goal.force_and_read-requires-clause-fits
-force_and_read-requires-clause-fits g c =
-    let items : c.deref.result.now ≡ c.args.first.now ∷ c.args.second.now ∷ [] = search rules in
-    omega (arith, two_long c.deref.result.now c.args.first.now c.args.second.now items, c.requires.fit.0, c.requires.fit.1)
+    let long = two_long c.deref.result.now c.args.first.now c.args.second.now items in
+    record {
+      whole = ap (λ (l : LogView). l.start) c.in_ok-reserve.ensures.ok ∙ c.in_ok-log.ensures.whole.1;
+      ended = search rules;
+      waits = search rules;
+      any = search rules;
+      some = search rules;
+      room = omega (arith, long, ap (λ (l : LogView). l.spare) c.in_ok-reserve.ensures.ok);
+      fits = omega (arith, long, c.requires.fit.0, c.requires.fit.1);
+    }

@@ -1,9 +1,10 @@
 // Replies, and their texts.
 use crate::{print_recovered, print_reply};
 use qc_base::{
-    Amount, Heard, Ids, Kind, Member, Moment, Name, Notice, Notices, Queue, Queues, Recovered,
-    Refusal, Reply, ShownRow, ShownRows, Side, Stage, Text, Waiting, Why,
+    Amount, Heard, Ids, Kind, Moment, Name, Notice, Notices, Queue, Queues, Recovered, Stage, Text,
+    Waiting, Why,
 };
+use qc_protocol::{Member, Refusal, Reply, ShownRow, ShownRows, Side};
 use std::alloc::Global;
 use std::test::Fail;
 

@@ -7,7 +7,7 @@ use Rattle.qc_base.proofs.Gathered.{gathered_none_yet, gathered_more, gathered_s
 use Rattle.qc_base.proofs.recording_reader.read_args.Goals as goal
 
 pub loop-init : goal.loop-init
-loop-init c = gathered_none_yet is_arg spelled_arg _ _ c.new-args.ensures.items
+loop-init c = gathered_none_yet is_arg spelled_arg _ _ (search rules)
 
 pub returns-in_default-read_arg : goal.returns-in_default-read_arg
 returns-in_default-read_arg c = λ value left limits e.

@@ -7,7 +7,7 @@ use Rattle.qc_base.proofs.Gathered.{gathered_none_yet, gathered_more, gathered_s
 use Rattle.qc_base.proofs.recording_reader.read_calls.Goals as goal
 
 pub loop-init : goal.loop-init
-loop-init c = gathered_none_yet is_call spelled_call _ _ c.new-calls.ensures.items
+loop-init c = gathered_none_yet is_call spelled_call _ _ (search rules)
 
 pub returns-in_default-2 : goal.returns-in_default-2
 returns-in_default-2 c = λ value left limits e.

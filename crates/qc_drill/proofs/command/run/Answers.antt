@@ -1,117 +1,119 @@
-use Rattle.std.proofs.Common.{ℕ, List, Option, IfSome, inl, inr, sym, ap, subst, Err, rules}
-use Rattle.qc_base.specs.declared.status.Status.{Status}
-use Rattle.qc_hub.specs.declared.error.Damage.{Damage}
-use Rattle.qc_drill.specs.Headline.{IsRunFrom}
-use Rattle.qc_drill.specs.Unopened.{damage_line, HoldsLine}
-use Rattle.qc_drill.proofs.Telling.{told-damage}
-use Rattle.qc_base.specs.Texts.{lines_of}
-use Rattle.qc_site.proofs.Moments.{started, weaker}
-use Rattle.qc_hub.proofs.OpeningFacts.{same-moment}
-use Rattle.qc_drill.proofs.Crashes.{opened_then}
-use Rattle.qc_drill.proofs.Reading.{where-both, not-opened, no-room}
+use Rattle.std.proofs.Common.{refl, sym, ◌∙◌, map, String, Global, string_bytes}
+use Rattle.qc_protocol.specs.declared.status.Status.TheVariants.{AlreadyMade, BadWords, InputLong, NotMade, NoCatalogue, Damaged}
+use Rattle.qc_hub.proofs.Later.{not-both}
+use Rattle.qc_drill.specs.Headline.{is_of_drill}
+use Rattle.qc_drill.specs.Inits.{is_of_init}
+use Rattle.qc_drill.proofs.Ends.{of-run, of-run-init, not-among, words-apart, was-made-before, not-bad, done-end, long-input, all-moments, not-made, no-group, damaged-none, is-unfailed, is-unmade, is-empty}
 use Rattle.qc_drill.proofs.command.run.Goals as goal
 
-pub returns-in-Err-Damaged-clause-damaged : goal.returns-in-Err-Damaged-clause-damaged
-returns-in-Err-Damaged-clause-damaged g c = λ told is s reads. c.in-Err-Damaged.ensures.no_history told c.in-Err-Damaged.damage (ap (λ e. Err e) c.in-Err-Damaged.field-0-is) s reads
+pub returns-then-is_drill-clause-bad_words : goal.returns-then-is_drill-clause-bad_words
+returns-then-is_drill-clause-bad_words g c = (λ e. absurd (not-bad c.drill.result c.drill.ensures.drills.kinds e), λ e. absurd (not-both _ e.0 (sym c.is_drill.ensures ∙ c.if-is_drill.true)))
 
-pub returns-in-Err-Damaged-clause-runs : goal.returns-in-Err-Damaged-clause-runs
-returns-in-Err-Damaged-clause-runs g c = λ told s reads. absurd (c.in-Err-Damaged.ensures.no_history told c.in-Err-Damaged.damage (ap (λ e. Err e) c.in-Err-Damaged.field-0-is) s reads)
+pub returns-then-is_drill-clause-untouched : goal.returns-then-is_drill-clause-untouched
+returns-then-is_drill-clause-untouched g c = λ e. absurd (not-bad c.drill.result c.drill.ensures.drills.kinds e)
 
-pub returns-in-Err-Damaged-clause-unfailed : goal.returns-in-Err-Damaged-clause-unfailed
-returns-in-Err-Damaged-clause-unfailed g c = λ told s reads drill a b d. absurd (c.in-Err-Damaged.ensures.no_history told c.in-Err-Damaged.damage (ap (λ e. Err e) c.in-Err-Damaged.field-0-is) s reads)
+pub returns-then-is_drill-clause-source_fault : goal.returns-then-is_drill-clause-source_fault
+returns-then-is_drill-clause-source_fault g c = c.drill.ensures.source_cause.cause
 
-pub returns-in-Err-Damaged-clause-unmade : goal.returns-in-Err-Damaged-clause-unmade
-returns-in-Err-Damaged-clause-unmade g c = λ told drill differs. absurd (differs (c.in-Err-Damaged.ensures.damaged told c.in-Err-Damaged.damage (ap (λ e. Err e) c.in-Err-Damaged.field-0-is)).1.0)
+pub returns-then-is_drill-clause-sink_fault : goal.returns-then-is_drill-clause-sink_fault
+returns-then-is_drill-clause-sink_fault g c = c.drill.ensures.sink_cause.cause
 
-pub returns-in-Err-SiteFault-clause-runs : goal.returns-in-Err-SiteFault-clause-runs
-returns-in-Err-SiteFault-clause-runs g c = λ told s reads. where-both _ _ _ (λ bytes held source sink. not-opened s bytes held _ _ _ _ source sink)
+pub returns-then-is_drill-clause-site_fault : goal.returns-then-is_drill-clause-site_fault
+returns-then-is_drill-clause-site_fault g c = c.drill.ensures.site_cause.cause
 
-pub returns-in-Ok-answer_all-clause-runs : goal.returns-in-Ok-answer_all-clause-runs
-returns-in-Ok-answer_all-clause-runs g c = λ told s reads. where-both _ _ _ (λ bytes held source sink.
-    let state = c.in-Ok.ensures.state told s reads in
-    c.in-Ok-answer_all.ensures.runs told s bytes held (g.S.Site.shown c.args.site.now) state.0 (record { others = c.in-Ok.ensures.others told; site = state.1 }) source sink)
+pub returns-then-is_drill-clause-done : goal.returns-then-is_drill-clause-done
+returns-then-is_drill-clause-done g c = λ word. done-end g.S.Site c.drill.result c.args.site.now c.drill.new.site _ _ _ _ c.drill.ensures.drills
 
-pub returns-clause-runs : goal.returns-clause-runs
-returns-clause-runs g c = λ told s reads. where-both _ _ _ (λ bytes held source sink.
-    let state = c.in-Ok.ensures.state told s reads in
-    let P : Status → Type 0 = λ x. IsRunFrom s bytes held (g.S.Site.shown c.args.site.now) x (g.I.Source.left c.answer_all.new.source) (g.O.Sink.contents c.answer_all.new.sink) (g.S.Site.shown c.answer_all.new.site) in
-    subst P (sym c.status.ensures) (c.in-Err.ensures.runs told s bytes held (g.S.Site.shown c.args.site.now) state.0 (record { others = c.in-Ok.ensures.others told; site = state.1 }) source sink))
+pub returns-then-is_drill-clause-input_long : goal.returns-then-is_drill-clause-input_long
+returns-then-is_drill-clause-input_long g c = long-input g.S.Site c.drill.result c.args.site.now c.drill.new.site _ _ _ _ c.drill.ensures.drills
 
-pub returns-in-Err-NoMemory-clause-runs : goal.returns-in-Err-NoMemory-clause-runs
-returns-in-Err-NoMemory-clause-runs g c = λ told s reads. where-both _ _ _ (λ bytes held source sink. no-room s bytes held _ _ _ _ source sink)
+pub returns-then-is_drill-clause-not_made : goal.returns-then-is_drill-clause-not_made
+returns-then-is_drill-clause-not_made g c = not-made g.S.Site c.drill.result c.args.site.now c.drill.new.site _ _ _ _ c.drill.ensures.drills
 
-pub returns-in-Err-Damaged-clause-unopened : goal.returns-in-Err-Damaged-clause-unopened
-returns-in-Err-Damaged-clause-unopened g c = λ told none. where-both _ _ _ (λ bytes held source sink.
-    let d : Damage = c.in-Err-Damaged.damage in
-    let is = c.in-Err-Damaged.ensures.damaged told d (ap (λ e. Err e) c.in-Err-Damaged.field-0-is) in
-    let line = subst (λ (o : Option (List ℕ)). IfSome o (λ held. HoldsLine held (damage_line d) c.tell_damage.result (g.O.Sink.contents c.tell_damage.new.sink))) sink c.tell_damage.ensures.line in
-    told-damage bytes held (g.S.Site.shown c.args.site.now) d c.tell_damage.result _ _ _ is.0 is.1.1 source (search rules) c.tell_damage.ensures.kinds line)
+pub returns-then-is_drill-clause-no_catalogue : goal.returns-then-is_drill-clause-no_catalogue
+returns-then-is_drill-clause-no_catalogue g c = no-group g.S.Site c.drill.result c.args.site.now c.drill.new.site _ _ _ _ c.drill.ensures.drills
 
-pub returns-in-Err-SiteFault-clause-any_moment : goal.returns-in-Err-SiteFault-clause-any_moment
-returns-in-Err-SiteFault-clause-any_moment g c = λ told s reads. where-both _ _ _ (λ bytes held source sink. weaker g.S.Site.moment g.S.Site.left_since _ _ _ _ (λ i here. inl here) (c.open.ensures.any_moment told))
+pub returns-then-is_drill-clause-damaged : goal.returns-then-is_drill-clause-damaged
+returns-then-is_drill-clause-damaged g c = damaged-none g.S.Site c.drill.result c.args.site.now c.drill.new.site _ _ _ _ c.drill.ensures.drills
 
-pub returns-in-Err-NotMade-clause-any_moment : goal.returns-in-Err-NotMade-clause-any_moment
-returns-in-Err-NotMade-clause-any_moment g c = λ told s reads. where-both _ _ _ (λ bytes held source sink. weaker g.S.Site.moment g.S.Site.left_since _ _ _ _ (λ i here. inl here) (c.open.ensures.any_moment told))
+pub returns-then-is_drill-clause-kinds : goal.returns-then-is_drill-clause-kinds
+returns-then-is_drill-clause-kinds g c = of-run c.drill.result c.drill.ensures.drills.kinds
 
-pub returns-in-Err-Damaged-clause-any_moment : goal.returns-in-Err-Damaged-clause-any_moment
-returns-in-Err-Damaged-clause-any_moment g c = λ told s reads. where-both _ _ _ (λ bytes held source sink. weaker g.S.Site.moment g.S.Site.left_since _ _ _ _ (λ i here. inl here) (c.open.ensures.any_moment told))
+pub returns-then-is_drill-clause-drill : goal.returns-then-is_drill-clause-drill
+returns-then-is_drill-clause-drill g c = λ word. c.drill.ensures.drills
 
-pub returns-in-Err-NoMemory-clause-any_moment : goal.returns-in-Err-NoMemory-clause-any_moment
-returns-in-Err-NoMemory-clause-any_moment g c = λ told s reads. where-both _ _ _ (λ bytes held source sink. weaker g.S.Site.moment g.S.Site.left_since _ _ _ _ (λ i here. inl here) (c.open.ensures.any_moment told))
+pub returns-then-is_drill-clause-any_moment : goal.returns-then-is_drill-clause-any_moment
+returns-then-is_drill-clause-any_moment g c = λ word. all-moments g.S.Site c.drill.result c.args.site.now c.drill.new.site _ _ _ _ c.drill.ensures.drills
 
-pub returns-then-not-is_drill-clause-any_moment : goal.returns-then-not-is_drill-clause-any_moment
-returns-then-not-is_drill-clause-any_moment g c = λ told s reads. where-both _ _ _ (λ bytes held source sink.
-    let site = c.args.site.now in
-    started g.S.Site.moment g.S.Site.left_since site _ (λ i left. inl (same-moment (g.S.Site.may_leave site) i (g.met.S.Site.only_now site i told left))))
+pub returns-then-is_drill-clause-unfailed : goal.returns-then-is_drill-clause-unfailed
+returns-then-is_drill-clause-unfailed g c = λ told s reads word a b d.
+    is-unfailed g.S.Site c.drill.result c.args.site.now c.drill.new.site _ _ _ _ c.drill.ensures.drills told s reads (λ e. a (c.drill.ensures.source_cause.cause e)) (λ e. b (c.drill.ensures.sink_cause.cause e)) (λ e. d (c.drill.ensures.site_cause.cause e))
 
-pub returns-in-Ok-answer_all-clause-any_moment : goal.returns-in-Ok-answer_all-clause-any_moment
-returns-in-Ok-answer_all-clause-any_moment g c = λ told s reads. where-both _ _ _ (λ bytes held source sink.
-    let site = g.S.Site in
-    let state = c.in-Ok.ensures.state told s reads in
-    let first = c.open.ensures.any_moment told in
-    opened_then site.moment site.left_since site.may_leave s c.args.site.now c.open.new.site c.answer_all.new.site (lines_of bytes) (λ d here. g.met.S.Site.counts_now c.open.new.site (site.moment c.args.site.now) d told first.later here)
-    first (c.in-Ok-answer_all.ensures.any_moment told s bytes held (site.shown c.args.site.now) state.0 (record { others = c.in-Ok.ensures.others told; site = state.1 }) source sink))
+pub returns-then-is_drill-clause-unmade : goal.returns-then-is_drill-clause-unmade
+returns-then-is_drill-clause-unmade g c = λ told word. is-unmade g.S.Site c.drill.result c.args.site.now c.drill.new.site _ _ _ _ c.drill.ensures.drills told
 
-pub returns-clause-any_moment : goal.returns-clause-any_moment
-returns-clause-any_moment g c = λ told s reads. where-both _ _ _ (λ bytes held source sink.
-    let site = g.S.Site in
-    let state = c.in-Ok.ensures.state told s reads in
-    let first = c.open.ensures.any_moment told in
-    opened_then site.moment site.left_since site.may_leave s c.args.site.now c.open.new.site c.answer_all.new.site (lines_of bytes) (λ d here. g.met.S.Site.counts_now c.open.new.site (site.moment c.args.site.now) d told first.later here)
-    first (c.in-Err.ensures.any_moment told s bytes held (site.shown c.args.site.now) state.0 (record { others = c.in-Ok.ensures.others told; site = state.1 }) source sink))
+pub returns-then-is_drill-clause-empty : goal.returns-then-is_drill-clause-empty
+returns-then-is_drill-clause-empty g c = λ told word. is-empty g.S.Site c.drill.result c.args.site.now c.drill.new.site _ _ _ _ c.drill.ensures.drills told
 
-pub returns-in-Err-SiteFault-clause-acknowledged : goal.returns-in-Err-SiteFault-clause-acknowledged
-returns-in-Err-SiteFault-clause-acknowledged g c = λ told s reads. where-both _ _ _ (λ bytes held source sink.
-    let any = c.open.ensures.any_moment told in
-    inr (record { none = sink; images = λ i here. any.each i (g.met.S.Site.counts_now c.open.new.site (g.S.Site.moment c.args.site.now) i told any.later here) }))
+pub returns-then-is_drill-clause-already_made : goal.returns-then-is_drill-clause-already_made
+returns-then-is_drill-clause-already_made g c = λ told e. absurd (not-among is_of_drill c.drill.result AlreadyMade c.drill.ensures.drills.kinds refl e)
 
-pub returns-in-Err-NotMade-clause-acknowledged : goal.returns-in-Err-NotMade-clause-acknowledged
-returns-in-Err-NotMade-clause-acknowledged g c = λ told s reads. where-both _ _ _ (λ bytes held source sink.
-    let any = c.open.ensures.any_moment told in
-    inr (record { none = sink; images = λ i here. any.each i (g.met.S.Site.counts_now c.open.new.site (g.S.Site.moment c.args.site.now) i told any.later here) }))
+pub returns-then-is_drill-clause-init : goal.returns-then-is_drill-clause-init
+returns-then-is_drill-clause-init g c = λ word. absurd (words-apart (map (λ (w : String Global). string_bytes w) c.args.words.now.items) (sym c.is_drill.ensures ∙ c.if-is_drill.true) word)
 
-pub returns-in-Err-NoMemory-clause-acknowledged : goal.returns-in-Err-NoMemory-clause-acknowledged
-returns-in-Err-NoMemory-clause-acknowledged g c = λ told s reads. where-both _ _ _ (λ bytes held source sink.
-    let any = c.open.ensures.any_moment told in
-    inr (record { none = sink; images = λ i here. any.each i (g.met.S.Site.counts_now c.open.new.site (g.S.Site.moment c.args.site.now) i told any.later here) }))
+pub returns-then-is_init-clause-bad_words : goal.returns-then-is_init-clause-bad_words
+returns-then-is_init-clause-bad_words g c = (λ e. absurd (not-among is_of_init c.init.result BadWords c.init.ensures.inits.kinds refl e), λ e. absurd (not-both _ e.1 (sym c.is_init.ensures ∙ c.if-is_init.true)))
 
-pub returns-in-Err-Damaged-clause-acknowledged : goal.returns-in-Err-Damaged-clause-acknowledged
-returns-in-Err-Damaged-clause-acknowledged g c = λ told s reads. absurd (c.in-Err-Damaged.ensures.no_history told c.in-Err-Damaged.damage (ap (λ e. Err e) c.in-Err-Damaged.field-0-is) s reads)
+pub returns-then-is_init-clause-untouched : goal.returns-then-is_init-clause-untouched
+returns-then-is_init-clause-untouched g c = λ e. absurd (not-among is_of_init c.init.result BadWords c.init.ensures.inits.kinds refl e)
 
-pub returns-then-not-is_drill-clause-acknowledged : goal.returns-then-not-is_drill-clause-acknowledged
-returns-then-not-is_drill-clause-acknowledged g c = λ told s reads. where-both _ _ _ (λ bytes held source sink. inr (record { none = sink; images = λ i here. same-moment (g.S.Site.may_leave c.args.site.now) i here }))
+pub returns-then-is_init-clause-source_fault : goal.returns-then-is_init-clause-source_fault
+returns-then-is_init-clause-source_fault g c = c.init.ensures.source_cause.cause
 
-pub returns-in-Ok-answer_all-clause-acknowledged : goal.returns-in-Ok-answer_all-clause-acknowledged
-returns-in-Ok-answer_all-clause-acknowledged g c = λ told s reads. where-both _ _ _ (λ bytes held source sink.
-    let state = c.in-Ok.ensures.state told s reads in
-    inl (c.in-Ok-answer_all.ensures.answered told s bytes held (g.S.Site.shown c.args.site.now) state.0 (record { others = c.in-Ok.ensures.others told; site = state.1 }) source sink))
+pub returns-then-is_init-clause-sink_fault : goal.returns-then-is_init-clause-sink_fault
+returns-then-is_init-clause-sink_fault g c = c.init.ensures.sink_cause.cause
 
-pub returns-clause-acknowledged : goal.returns-clause-acknowledged
-returns-clause-acknowledged g c = λ told s reads. where-both _ _ _ (λ bytes held source sink.
-    let state = c.in-Ok.ensures.state told s reads in
-    inl (c.in-Err.ensures.answered told s bytes held (g.S.Site.shown c.args.site.now) state.0 (record { others = c.in-Ok.ensures.others told; site = state.1 }) source sink))
+pub returns-then-is_init-clause-site_fault : goal.returns-then-is_init-clause-site_fault
+returns-then-is_init-clause-site_fault g c = c.init.ensures.site_cause.cause
 
-pub returns-then-not-is_drill-clause-unharmed : goal.returns-then-not-is_drill-clause-unharmed
-returns-then-not-is_drill-clause-unharmed g c = λ told none.
-    let site = c.args.site.now in
-    started g.S.Site.moment g.S.Site.left_since site _ (λ i left. same-moment (g.S.Site.may_leave site) i (g.met.S.Site.only_now site i told left))
+pub returns-then-is_init-clause-done : goal.returns-then-is_init-clause-done
+returns-then-is_init-clause-done g c = λ word. absurd (not-both _ (sym c.is_drill.ensures ∙ c.if-is_drill.false) word)
+
+pub returns-then-is_init-clause-input_long : goal.returns-then-is_init-clause-input_long
+returns-then-is_init-clause-input_long g c = λ e. absurd (not-among is_of_init c.init.result InputLong c.init.ensures.inits.kinds refl e)
+
+pub returns-then-is_init-clause-not_made : goal.returns-then-is_init-clause-not_made
+returns-then-is_init-clause-not_made g c = λ told e. absurd (not-among is_of_init c.init.result NotMade c.init.ensures.inits.kinds refl e)
+
+pub returns-then-is_init-clause-no_catalogue : goal.returns-then-is_init-clause-no_catalogue
+returns-then-is_init-clause-no_catalogue g c = λ told e. absurd (not-among is_of_init c.init.result NoCatalogue c.init.ensures.inits.kinds refl e)
+
+pub returns-then-is_init-clause-damaged : goal.returns-then-is_init-clause-damaged
+returns-then-is_init-clause-damaged g c = λ told e. absurd (not-among is_of_init c.init.result Damaged c.init.ensures.inits.kinds refl e)
+
+pub returns-then-is_init-clause-already_made : goal.returns-then-is_init-clause-already_made
+returns-then-is_init-clause-already_made g c = was-made-before g.S.Site c.init.result c.args.site.now c.init.new.site _ _ _ _ c.init.ensures.inits
+
+pub returns-then-is_init-clause-kinds : goal.returns-then-is_init-clause-kinds
+returns-then-is_init-clause-kinds g c = of-run-init c.init.result c.init.ensures.inits.kinds
+
+pub returns-then-is_init-clause-init : goal.returns-then-is_init-clause-init
+returns-then-is_init-clause-init g c = λ word. c.init.ensures.inits
+
+pub returns-then-is_init-clause-drill : goal.returns-then-is_init-clause-drill
+returns-then-is_init-clause-drill g c = λ word. absurd (not-both _ (sym c.is_drill.ensures ∙ c.if-is_drill.false) word)
+
+pub returns-then-is_init-clause-any_moment : goal.returns-then-is_init-clause-any_moment
+returns-then-is_init-clause-any_moment g c = λ word. absurd (not-both _ (sym c.is_drill.ensures ∙ c.if-is_drill.false) word)
+
+pub returns-then-is_init-clause-unfailed : goal.returns-then-is_init-clause-unfailed
+returns-then-is_init-clause-unfailed g c = λ told s reads word. absurd (not-both _ (sym c.is_drill.ensures ∙ c.if-is_drill.false) word)
+
+pub returns-then-is_init-clause-unmade : goal.returns-then-is_init-clause-unmade
+returns-then-is_init-clause-unmade g c = λ told word. absurd (not-both _ (sym c.is_drill.ensures ∙ c.if-is_drill.false) word)
+
+pub returns-then-is_init-clause-empty : goal.returns-then-is_init-clause-empty
+returns-then-is_init-clause-empty g c = λ told word. absurd (not-both _ (sym c.is_drill.ensures ∙ c.if-is_drill.false) word)
+
+pub returns-clause-bad_words : goal.returns-clause-bad_words
+returns-clause-bad_words g c = (λ e. (sym c.is_drill.ensures ∙ c.if-is_drill.false, sym c.is_init.ensures ∙ c.if-is_init.false), λ e. refl)

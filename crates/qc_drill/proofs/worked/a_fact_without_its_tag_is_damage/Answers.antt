@@ -5,8 +5,13 @@ use Rattle.qc_base.specs.declared.fact.Fact.{Fact}
 use Rattle.qc_base.specs.declared.fact.Fact.TheVariants.{Catalogue, Sent, Played, Failed, Moved, Switched}
 use Rattle.qc_frame.specs.Frame.{size_at, size_bytes}
 use Rattle.qc_journal.specs.History.{fact_payload}
-use Rattle.qc_hub.specs.Opening.{DamagedAt}
-use Rattle.qc_drill.specs.Worked.{untagged_journal}
+use Rattle.qc_machine.specs.History.{by_text}
+use Rattle.qc_machine.specs.Opening.{DamagedJournal}
+use Rattle.qc_drill.specs.Worked.{untagged_journal, made_facts}
+use Rattle.qc_drill.proofs.Sampled.{sample-some}
+use Rattle.qc_base.specs.Spelling.{four_bytes}
+use Rattle.qc_catalogue.specs.Sample.{sample}
+use Rattle.std.specs.Prelude.{is_some, true, ◌&&◌}
 use Rattle.qc_drill.proofs.worked.a_fact_without_its_tag_is_damage.Goals as goal
 
 -- no fact has the tag 0
@@ -19,14 +24,14 @@ no_fact payload tag (Failed id attempt at) e = absurd (omega (arith, tag, ap (λ
 no_fact payload tag (Moved app queue at ids) e = absurd (omega (arith, tag, ap (λ (l : List ℕ). get_or l 4 0) e))
 no_fact payload tag (Switched app on at) e = absurd (omega (arith, tag, ap (λ (l : List ℕ). get_or l 4 0) e))
 
-damaged : DamagedAt untagged_journal 21
-unfolding size_at size_bytes
-damaged =
-    let payload = take 59 (drop 21 untagged_journal) in
+damaged : (is_some (by_text sample) && true) ≡ true → DamagedJournal untagged_journal 1677
+unfolding size_at size_bytes four_bytes
+damaged some =
+    let payload = take 59 (drop 1677 untagged_journal) in
     record {
-      facts = [];
-      place = 16;
-      front = record { spelled = refl; limits = refl; legal = refl; reached = refl };
+      facts = made_facts;
+      place = 1672;
+      front = record { spelled = refl; limits = refl; legal = some; reached = refl };
       unfit = inl (record {
         payload = payload;
         next = refl;
@@ -37,4 +42,4 @@ damaged =
 
 pub returns : goal.returns
 unfolding digits
-returns c = record { place = damaged; line = λ image is. record { at = 21; place = subst (λ (file : List ℕ). DamagedAt file 21) (sym is) damaged; is = refl } }
+returns c = record { place = λ image is. inl (refl, subst (λ (file : List ℕ). DamagedJournal file 1677) (sym is) (damaged (sample-some c.the_sample_is_a_catalogue.ensures))); line = refl }

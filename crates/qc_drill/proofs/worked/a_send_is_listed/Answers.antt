@@ -1,25 +1,29 @@
-use Rattle.std.proofs.Common.{[], take, refl, sym, ap}
+use Rattle.std.proofs.Common.{take, refl, sym, ap}
 use Rattle.std.specs.Str.{is_utf8, chars}
 use Rattle.std.specs.Fmt.{digits}
 use lib.Utf8.{encode}
 use Rattle.serde_json.proofs.OnLiterals.{serde_json_on_literals}
-use Rattle.qc_base.specs.Spelling.{two_bytes, eight_bytes}
-use Rattle.qc_base.specs.History.{no_facts}
+use Rattle.qc_base.specs.Spelling.{two_bytes, four_bytes, eight_bytes}
 use Rattle.qc_frame.specs.Frame.{size_at, size_bytes, groups}
-use Rattle.qc_hub.specs.Sites.{file_end, as_read}
-use Rattle.qc_hub.specs.Step.{step}
-use Rattle.qc_hub.specs.Refuse.{refusal}
+use Rattle.qc_machine.specs.History.{by_text, history_of}
+use Rattle.qc_machine.specs.Sites.{file_end, as_read}
+use Rattle.qc_machine.specs.Step.{step, refusal}
 use Rattle.qc_drill.specs.Headline.{programs_limits}
+use Rattle.qc_drill.specs.Worked.{made_facts}
+use Rattle.qc_drill.proofs.Sampled.{sample-some}
 use Rattle.qc_drill.proofs.worked.a_send_is_listed.Goals as goal
 
 pub returns-clause-start : goal.returns-clause-start
-unfolding size_at size_bytes
-returns-clause-start c = λ image is. record {
-  header = ap (take 16) is;
-  facts = [];
-  spelled = record { groups = ap groups is; limits = refl };
-  legal = refl;
-  is = sym (ap (λ file. as_read programs_limits no_facts (file_end file)) is);
+unfolding size_at size_bytes four_bytes
+returns-clause-start c = λ image journal log. record {
+  facts = made_facts;
+  stands = record {
+    headers = record { journal = ap (take 16) journal; log = ap (take 16) log };
+    spelled = record { groups = ap groups journal; limits = refl };
+    legal = sample-some c.the_sample_is_a_catalogue.ensures;
+    unused = ap groups log;
+  };
+  is = λ i. as_read programs_limits (history_of by_text made_facts) (file_end (sym journal i)) (file_end (sym log i));
 }
 
 pub returns-clause-orders : goal.returns-clause-orders
@@ -39,9 +43,14 @@ unfolding is_utf8 chars encode two_bytes eight_bytes size_bytes step refusal ser
 returns-clause-group c = refl
 
 pub returns-clause-journal : goal.returns-clause-journal
-unfolding is_utf8 chars encode two_bytes eight_bytes size_at size_bytes step refusal serde_json_on_literals
-returns-clause-journal c = λ image is. record {
-  header = ap (take 16) is;
-  spelled = record { groups = ap groups is; limits = refl };
-  journal = sym (ap file_end is);
+unfolding is_utf8 chars encode two_bytes four_bytes eight_bytes size_at size_bytes step refusal serde_json_on_literals
+returns-clause-journal c = λ image journal log. record {
+  stands = record {
+    headers = record { journal = ap (take 16) journal; log = ap (take 16) log };
+    spelled = record { groups = ap groups journal; limits = refl };
+    legal = sample-some c.the_sample_is_a_catalogue.ensures;
+    unused = ap groups log;
+  };
+  journal = sym (ap file_end journal);
+  log = sym (ap file_end log);
 }

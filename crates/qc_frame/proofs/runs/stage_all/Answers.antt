@@ -1,6 +1,6 @@
-use Rattle.std.proofs.Common.{◌≡◌, ◌+◌, ◌<◌, ◌++◌, ◌∷◌, [], List, ℕ, length, take, get_or, sym, ◌∙◌, ap, arith, length-append}
+use Rattle.std.proofs.Common.{◌≡◌, ◌+◌, ◌<◌, ◌++◌, ◌∷◌, [], List, ℕ, length, take, get_or, sym, ◌∙◌, ap, arith, length-append, rules}
 use Rattle.std.specs.List.{flat_map}
-use Rattle.std.proofs.lemmas.Grind.{take_at_read}
+use Rattle.std.proofs.lemmas.Grind.{take_at_read, common_steps}
 use Rattle.qc_base.proofs.Parts.{fits_more}
 use Rattle.qc_frame.specs.Frame.{entry}
 use Rattle.qc_frame.specs.Log.{LogView}
@@ -8,19 +8,18 @@ use Rattle.qc_frame.proofs.Payload.{length-entry, flat_map-entry}
 use Rattle.qc_frame.proofs.Staged.{staged_more}
 use Rattle.qc_frame.proofs.runs.stage_all.Goals as goal
 
-pub stage-requires-clause-room : goal.stage-requires-clause-room
-stage-requires-clause-room c =
-    let item = c.bytes-item.result in
-    let more = fits_more entry c.args.entries.now c.loop-bytes.bytes-index item (omega arith) c.bytes-item.is in
-    omega (arith, more, length-entry item, ap (λ (l : LogView). l.spare) c.loop-bytes.invariant, c.requires.room, ap length c.as_slice.ensures)
-
-pub stage-requires-clause-fits : goal.stage-requires-clause-fits
-stage-requires-clause-fits c =
+pub stage-requires : goal.stage-requires
+stage-requires c =
     let item = c.bytes-item.result in
     let entries = c.args.entries.now in
     let more = fits_more entry entries c.loop-bytes.bytes-index item (omega arith) c.bytes-item.is in
     let so_far = flat_map entry (take c.loop-bytes.bytes-index entries) in
-    omega (arith, more, length-entry item, ap (λ (l : LogView). length l.payload) c.loop-bytes.invariant, length-append c.args.log.now.payload so_far, c.requires.fits, ap length c.as_slice.ensures)
+    record {
+      some = grind (arith, common_steps);
+      ended = search rules;
+      room = omega (arith, more, length-entry item, ap (λ (l : LogView). l.spare) c.loop-bytes.invariant, c.requires.room, ap length c.as_slice.ensures);
+      fits = omega (arith, more, length-entry item, ap (λ (l : LogView). length l.payload) c.loop-bytes.invariant, length-append c.args.log.now.payload so_far, c.requires.fits, ap length c.as_slice.ensures);
+    }
 
 pub loop-bytes-preserved : goal.loop-bytes-preserved
 loop-bytes-preserved c =

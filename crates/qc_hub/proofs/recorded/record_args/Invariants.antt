@@ -1,6 +1,6 @@
 use Rattle.std.proofs.Common.{◌≡◌, take, map, true}
 use Rattle.std.specs.List.{list_all}
-use Rattle.qc_hub.specs.Recorded.{arg_fits, arg_recorded}
+use Rattle.qc_machine.specs.Recorded.{arg_fits, arg_recorded}
 use Rattle.qc_hub.proofs.recorded.record_args.Given as goal
 
 abbrev pub invariant-loop-arg : goal.invariant-loop-arg

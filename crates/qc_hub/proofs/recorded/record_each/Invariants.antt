@@ -1,6 +1,6 @@
 use Rattle.std.proofs.Common.{◌≡◌, take, map, true}
 use Rattle.std.specs.List.{list_all}
-use Rattle.qc_hub.specs.Recorded.{call_fits, call_recorded}
+use Rattle.qc_machine.specs.Recorded.{call_fits, call_recorded}
 use Rattle.qc_hub.proofs.recorded.record_each.Given as goal
 
 abbrev pub invariant-loop-call : goal.invariant-loop-call

@@ -1,5 +1,5 @@
 use Rattle.std.proofs.Common.{◌≡◌, ◌++◌, drop}
-use Rattle.qc_base.specs.Texts.{queues_text}
+use Rattle.qc_protocol.specs.Texts.{queues_text}
 use Rattle.qc_orders.proofs.listings.put_waiting.Given as goal
 
 abbrev pub invariant-loop-number : goal.invariant-loop-number

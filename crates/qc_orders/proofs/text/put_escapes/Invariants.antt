@@ -1,5 +1,5 @@
 use Rattle.std.proofs.Common.{◌≡◌, ◌++◌, flat_map, take}
-use Rattle.qc_base.specs.Texts.{escaped_byte}
+use Rattle.qc_protocol.specs.Texts.{escaped_byte}
 use Rattle.qc_orders.proofs.text.put_escapes.Given as goal
 
 abbrev pub invariant-loop-byte : goal.invariant-loop-byte

@@ -1,9 +1,17 @@
 use Rattle.std.proofs.Common.{arith}
-use Rattle.qc_memsite.specs.Calls.{image_of}
-use Rattle.qc_memsite.specs.declared.kept.Change.TheVariants.{CutTo}
+use Rattle.qc_memsite.specs.Call.{CutTo}
 use Rattle.qc_memsite.proofs.Ends.{ends_pushed}
-use Rattle.qc_memsite.proofs.Pushed.{grown}
+use Rattle.qc_memsite.proofs.Tied.{shown_on, left_on, short_first}
 use Rattle.qc_memsite.proofs.kept.Kept.shorten.Goals as goal
 
 pub invariant_of-self-2 : goal.invariant_of-self-2
-invariant_of-self-2 c = record { first_short = c.args.self.now.first_short; ends = ends_pushed c.args.self.now.calls.items c.push.new.self.items (CutTo c.args.file c.args.len) c.in_ok-push.ensures.items c.args.self.now.ends (omega arith); shown = grown (image_of c.args.self.now.first) c.args.self.now.calls.items c.push.new.self.items (CutTo c.args.file c.args.len) (image_of c.args.self.now.content) (image_of c.shorten.new.self) c.in_ok-push.ensures.items c.args.self.now.shown c.shorten.ensures }
+invariant_of-self-2 c =
+    let old = c.args.self.now in
+    let call = CutTo c.args.file c.args.len in
+    let now = c.and-self.result in
+    record {
+      first_short = short_first old.history now c.and-self.ensures.0 old.first_short;
+      ends = ends_pushed old.history.calls now.calls call c.and-self.ensures.1 old.ends (omega arith);
+      shown = shown_on old.content c.shorten.new.self old.history now call c.in_ok-shorten.ensures.ok c.and-self.ensures.0 c.and-self.ensures.1 old.shown;
+      left = left_on old.content c.shorten.new.self old.history now call c.in_ok-shorten.ensures.ok c.and-self.ensures.0 c.and-self.ensures.1 old.shown old.left;
+    }

@@ -1,0 +1,13 @@
+pub mod Fields
+pub mod Findings
+pub mod Scripts
+pub mod Rows
+pub mod Methods
+pub mod Applications
+pub mod Catalogue
+pub mod Lookup
+pub mod Sample
+pub mod Texts
+pub mod Worked
+pub mod Laws
+pub mod Orderly

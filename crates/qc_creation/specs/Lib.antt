@@ -1,0 +1,4 @@
+pub mod Rows
+pub mod Sites
+pub mod Calls
+pub mod Parts

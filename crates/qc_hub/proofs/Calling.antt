@@ -1,0 +1,155 @@
+-- Calls of the hub, put together: one that makes no call of the site, one that hands on another's, one behind the moment.
+use Rattle.std.proofs.Common.{◌≡◌, ◌⊎◌, ℕ, List, [], ◌∷◌, ◌++◌, max, Bool, true, false, refl, sym, ap, ◌∙◌, subst, inl, inr, ⊎_elim, arith, Ok, Err, IfOk, IsErrOf}
+use Rattle.std.specs.declared.result.Result.{Result}
+use Rattle.qc_protocol.specs.declared.reply.Reply.{Reply}
+use Rattle.qc_site.specs.declared.site.Site.{Ghosts}
+use Rattle.qc_site.specs.declared.site.SiteFile.{SiteFile}
+use Rattle.qc_site.specs.declared.site.SiteFile.TheVariants.{Journal, CrmLog}
+use Rattle.qc_site.specs.Image.{Image, bytes_of}
+use Rattle.qc_site.specs.Disk.{Images, Certain, LeavesOnly}
+use Rattle.qc_site.proofs.Moments.{started, weaker, joined}
+use Rattle.qc_machine.specs.State.{State, at_moment}
+use Rattle.qc_machine.specs.Sites.{IsSiteOf, IsKept, LeavesOneOf}
+use Rattle.qc_machine.specs.Steps.{Step, Among, IsBetween}
+use Rattle.qc_machine.proofs.Images.{image-stays, one-of, stays-same, stays-joined}
+use Rattle.qc_hub.specs.declared.error.HubError.{HubError}
+use Rattle.qc_hub.specs.declared.error.HubError.TheVariants.{SiteFault, NoMemory}
+use Rattle.qc_hub.specs.declared.hub.Hub.{Hub}
+use Rattle.qc_hub.specs.Stands.{IsHubOf, StepsTo}
+use Rattle.qc_hub.specs.Calls.{StandsSound, HubStands, IsReady, LeavesStanding, Starves, TakesStep, StepsBy}
+use Rattle.qc_hub.proofs.Later.{Later, Moved, later-hub, moved-hub, moved-ready, moved-limits, at-no-moment, not-both}
+
+-- the second step behind the first
+abbrev pub u_after : Step → Step → Step
+u_after t u = record { through = t.through ++ t.state ∷ u.through; state = u.state; reply = u.reply }
+
+among-left : (a b : List State) (x : State) → Among a x → Among (a ++ b) x
+among-left [] b x h = absurd h
+among-left (y ∷ a) b x h = ⊎_elim (λ e. inl e) (λ m. inr (among-left a b x m)) h
+
+among-right : (a b : List State) (x : State) → Among b x → Among (a ++ b) x
+among-right [] b x h = h
+among-right (y ∷ a) b x h = inr (among-right a b x h)
+
+module _ {S : Type 0} (g : Ghosts S) where
+  -- both logs of a sound hub are certain in each image
+  pub journal-certain : (hub : Hub) (site : S) → StandsSound g hub site → g.told → Certain Journal (g.shown site).journal (g.may_leave site)
+  journal-certain hub site sound told = (sound.journal told).certain
+
+  pub log-certain : (hub : Hub) (site : S) → StandsSound g hub site → g.told → Certain CrmLog (g.shown site).crm_log (g.may_leave site)
+  log-certain hub site sound told = subst (λ (f : SiteFile). Certain f (bytes_of f (g.shown site)) (g.may_leave site)) sound.unused.file (sound.log told).certain
+
+  -- a hub that didn't fail
+  pub left-ready : {failed : Type 0} (hub : Hub) (site : S) (new : Hub) (after : S) → IsReady g hub site → ¬ failed → LeavesStanding g failed hub site new after → IsReady g new after
+  left-ready hub site new after ready fine leaves = record { stands = leaves.stands; no_fault = by_fault new.in_fault refl }
+    where
+      by_fault : (b : Bool) → new.in_fault ≡ b → new.in_fault ≡ false
+      by_fault false e = e
+      by_fault true e = absurd (⊎_elim (λ f. fine f) (λ was. not-both hub.in_fault ready.no_fault was) (leaves.unhurt e))
+
+  -- after a fault each image stands for a history: that of a state between
+  pub hurt-after : (s : State) (t : Step) (site after : S) → ((d : Image) → g.may_leave after d → g.left_since after (g.moment site) d) → LeavesOnly g.moment g.left_since site after (LeavesOneOf (g.may_leave site) (IsBetween s t)) → (c : Image) → g.may_leave after c → IsKept c
+  hurt-after s t site after counts any c here = let left = any.each c (counts c here) in (left.state.history.facts, left.stands)
+
+module _ {S : Type 0} (g : Ghosts S) (at : ℕ) where
+  -- a call that made none of the site
+  pub answered : (by : State → Step) (result : Result Reply HubError) (hub new : Hub) (site : S) → ((c : Image) → g.told → g.left_since site (g.moment site) c → g.may_leave site c)
+      → IsReady g hub site → Moved hub new at → ¬ IsErrOf result SiteFault → (g.told → (s : State) → IsHubOf hub s → IsSiteOf (g.shown site) s → IfOk result (StepsTo (by s) new (g.shown site)))
+      → StepsBy g at by result hub site new site
+  answered by result hub new site now ready moved no_fault answer =
+      let sound = ready.stands.sound ready.no_fault in
+      let after = moved-ready g hub new at site moved ready in
+      record {
+        told = λ told s h on.
+            let journal = journal-certain g hub site sound told in
+            let log = log-certain g hub site sound told in
+            record {
+              answer = answer told s h on;
+              starved = λ e. record {
+                is_in = moved-hub hub new at s moved h;
+                same = refl;
+                any_moment = started g.moment g.left_since site _ (λ c left. image-stays (g.may_leave site) (g.shown site) s (λ x. x ≡ s) on journal log refl c (now c told left));
+              };
+              others = λ fine. stays-same (g.shown site);
+              any_moment = started g.moment g.left_since site _ (λ c left. image-stays (g.may_leave site) (g.shown site) s (IsBetween s (by s)) on journal log (inl refl) c (now c told left));
+            };
+        moment = λ e. absurd (no_fault e);
+        leaves = record {
+          stands = after.stands;
+          limits = moved-limits hub new at moved;
+          hurt = λ e. absurd (no_fault e);
+          unhurt = λ e. absurd (not-both new.in_fault after.no_fault e);
+          cause = record { no_fewer = omega arith; cause = λ e. absurd (no_fault e) };
+        };
+      }
+
+  -- a call that made none and was in want of memory
+  pub starved : (by : State → Step) (result : Result Reply HubError) (hub new : Hub) (site : S) → ((c : Image) → g.told → g.left_since site (g.moment site) c → g.may_leave site c)
+      → IsReady g hub site → Moved hub new at → result ≡ Err NoMemory → StepsBy g at by result hub site new site
+  starved by result hub new site now ready moved is =
+      subst (λ (r : Result Reply HubError). StepsBy g at by r hub site new site) (sym is) (answered by (Err NoMemory) hub new site now ready moved (λ e. cc) (λ told s h on. tt))
+
+  -- a call that hands on another's, which takes the same step
+  pub handed_on : (step by : State → Step) (result : Result Reply HubError) (hub : Hub) (site : S) (new : Hub) (after : S) → ((s : State) → IsHubOf hub s → step s ≡ by s) → StepsBy g at by result hub site new after → StepsBy g at step result hub site new after
+  handed_on step by result hub site new after same call = record {
+    told = λ told s h on. subst (λ (t : Step). TakesStep g s t at result site new after) (sym (same s h)) (call.told told s h on);
+    moment = call.moment;
+    leaves = call.leaves;
+  }
+
+  -- Two calls in turn, the second of which takes no memory: the whole goes through the state between them.
+  pub in_turn : (s : State) (t u : Step) (result : Result Reply HubError) (r : Reply) (site : S) (mid : Hub) (between : S) (new : Hub) (after : S) → ((d : Image) → g.may_leave between d → g.left_since between (g.moment site) d)
+      → ¬ IsErrOf result NoMemory → TakesStep g s t at (Ok r) site mid between → TakesStep g t.state u 0 result between new after → TakesStep g s (u_after t u) at result site new after
+  in_turn s t u result r site mid between new after counts starts first second = record {
+    answer = answer-on result second.answer;
+    starved = λ e. absurd (starts e);
+    others = λ fine. stays-joined (g.shown site) (g.shown between) (g.shown after) (first.others (λ e. absurd cc)) (second.others fine);
+    any_moment = joined g.moment g.left_since site between after _
+        (weaker g.moment g.left_since site between _ _ (one-of (g.may_leave site) (IsBetween s t) (IsBetween s (u_after t u)) (λ x is. (x, earlier x is, refl))) first.any_moment)
+        (weaker g.moment g.left_since between after _ _ (λ c left. from_mid c left) second.any_moment);
+  }
+    where
+      answer-on : (result : Result Reply HubError) → IfOk result (StepsTo u new (g.shown after)) → IfOk result (StepsTo (u_after t u) new (g.shown after))
+      answer-on (Ok reply) a = record { replies = a.replies; is_in = a.is_in; on_site = a.on_site }
+      answer-on (Err e) a = tt
+
+      earlier : (x : State) → IsBetween s t x → IsBetween s (u_after t u) x
+      earlier x is = ⊎_elim (λ e. inl e) (λ more. inr (inl (⊎_elim (λ a. among-left t.through (t.state ∷ u.through) x a) (λ e. among-right t.through (t.state ∷ u.through) x (inl e)) more))) is
+
+      later : (x : State) → IsBetween t.state u x → IsBetween s (u_after t u) x
+      later x is = ⊎_elim (λ e. inr (inl (among-right t.through (t.state ∷ u.through) x (inl e)))) (λ more. inr (⊎_elim (λ a. inl (among-right t.through (t.state ∷ u.through) x (inr a))) (λ e. inr e) more)) is
+
+      from_mid : (c : Image) → LeavesOneOf (g.may_leave between) (IsBetween t.state u) c → LeavesOneOf (g.may_leave site) (IsBetween s (u_after t u)) c
+      from_mid c left =
+          let d = first.any_moment.each left.was (counts left.was left.there) in
+          record { was = d.was; there = d.there; others = stays-joined d.was left.was c d.others left.others; state = left.state; is = later left.state left.is; stands = left.stands }
+
+  -- a call behind which another goes on from the later moment
+  pub behind : (by : State → Step) (result : Result Reply HubError) (hub mid : Hub) (site : S) (new : Hub) (after : S) → Later hub mid at → StepsBy g 0 by result mid site new after → StepsBy g at (λ s. by (at_moment at s)) result hub site new after
+  behind by result hub mid site new after later call = record {
+    told = λ told s h on.
+        let t : State = at_moment at s in
+        let images = g.may_leave site in
+        let step = call.told told t (later-hub hub mid at s later h) (record { stands = on.stands; journal = on.journal; log = on.log }) in
+        record {
+          answer = step.answer;
+          starved = λ e.
+              let still = step.starved e in
+              record {
+                is_in = inr (⊎_elim (λ h. h) (λ h. subst (IsHubOf new) (at-no-moment t) h) still.is_in);
+                same = still.same;
+                any_moment = weaker g.moment g.left_since site after _ _ (one-of images (λ x. x ≡ t) (λ x. x ≡ s) (λ x e. (s, refl, ap (λ (x : State). x.history.facts) (sym e)))) still.any_moment;
+              };
+          others = step.others;
+          any_moment = weaker g.moment g.left_since site after _ _
+              (one-of images (IsBetween t (by t)) (IsBetween s (by t)) (λ x is. ⊎_elim (λ e. (s, inl refl, ap (λ (x : State). x.history.facts) (sym e))) (λ more. (x, inr more, refl)) is)) step.any_moment;
+        };
+    moment = λ e. omega (arith, call.moment e, later.last);
+    leaves = record {
+      stands = call.leaves.stands;
+      limits = call.leaves.limits ∙ later.limits;
+      hurt = call.leaves.hurt;
+      unhurt = λ e. ⊎_elim (λ f. inl f) (λ was. inr (sym later.in_fault ∙ was)) (call.leaves.unhurt e);
+      cause = call.leaves.cause;
+    };
+  }

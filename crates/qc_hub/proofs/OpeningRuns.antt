@@ -1,0 +1,178 @@
+-- The run that reads a journal, and what each of its exits says.
+use Rattle.std.proofs.Common.{◌≡◌, ⊎_elim, ◌≤◌, ℕ, List, [], length, refl, sym, ap, ◌∙◌, subst, arith, true, false, Option, Some, None, Ok, Err, IsErrOf}
+use Rattle.qc_base.specs.declared.fact.Fact.{Fact}
+use Rattle.qc_site.specs.declared.site.Site.{Ghosts}
+use Rattle.qc_site.specs.declared.site.SiteFile.TheVariants.{Journal}
+use Rattle.qc_site.specs.Disk.{LeavesOnly}
+use Rattle.qc_site.specs.Image.{Image, with_bytes}
+use Rattle.qc_site.proofs.Moments.{started}
+use Rattle.qc_frame.specs.declared.error.Damage.{Damage}
+use Rattle.qc_frame.specs.declared.error.LogError.{LogError}
+use Rattle.qc_frame.specs.declared.error.LogError.TheVariants.{SiteFault}
+use Rattle.qc_frame.specs.Calls.{LogStands, KeepsGroups, ReadsOn}
+use Rattle.qc_frame.specs.Gate.{After}
+use Rattle.qc_frame.specs.Log.{SameFrom}
+use Rattle.qc_frame.proofs.Chained.{keeps_on}
+use Rattle.qc_frame.proofs.Same.{same_log, step_others}
+use Rattle.qc_journal.specs.Calls.{FindsFact}
+use Rattle.qc_journal.specs.Journal.{JournalView, log_of, NextFact, NoFact, DamagedFact}
+use Rattle.qc_machine.specs.declared.error.OpenError.{OpenError}
+use Rattle.qc_machine.specs.declared.error.OpenError.TheVariants.{SiteFault as site_fault, NotMade as not_made, NoCatalogue as no_first, Damaged as damaged, NoMemory as no_memory}
+use Rattle.qc_machine.specs.Opening.{DamagedJournal}
+use Rattle.qc_hub.specs.declared.hub.Hub.{Hub}
+use Rattle.qc_hub.specs.Opening.{in_journal, damage_at, IsUnread, HasFacts, TakesFact, ReadsFacts}
+use Rattle.qc_hub.specs.Stands.{AreNumbered}
+use Rattle.qc_hub.proofs.OpeningErrors.{by-fault, by-header, by-damage, no-first}
+use Rattle.qc_hub.proofs.OpeningRead.{ReadSoFar, place-inside, read-none, read-more, read-end, not-next, no-fact}
+
+-- the hub with the journal where it stands now
+abbrev pub at_place : Hub → JournalView → Hub
+at_place hub journal = record hub { journal = journal }
+
+module _ {S : Type 0} (g : Ghosts S) where
+  -- the facts up to the place of the journal were read since the run began
+  pub record Reading (begun site : S) (first hub : Hub) : Type 0 where
+    pub stands : LogStands g (log_of hub.journal) site
+    pub whole : first.journal.start ≡ 16
+    pub journal : hub.journal ≡ record first.journal { place = hub.journal.place }
+    pub numbered : AreNumbered hub.store.messages
+    pub few : hub.facts ≤ hub.journal.place
+    pub kept : hub ≡ record first { journal = hub.journal; catalogue = hub.catalogue; store = hub.store; facts = hub.facts; last = hub.last }
+    pub faults : g.faults begun ≤ g.faults site
+    pub still : g.told → g.shown site ≡ g.shown begun
+    pub left : g.told → LeavesOnly g.moment g.left_since begun site (After Journal (SameFrom first.journal.start) (g.may_leave begun))
+    pub read : g.told → ReadSoFar (g.shown begun).journal hub
+
+  pub begins : (site : S) (hub : Hub) → ((c : Image) → g.told → g.left_since site (g.moment site) c → g.may_leave site c) → LogStands g (log_of hub.journal) site → AreNumbered [] → IsUnread hub.limits hub → Reading site site hub hub
+  begins site hub now stands none unread = record {
+    stands = stands;
+    whole = ap (λ (j : JournalView). j.start) unread.journal;
+    journal = refl;
+    numbered = subst AreNumbered (sym unread.none.messages) none;
+    few = omega (arith, unread.none.counted);
+    kept = refl;
+    faults = omega arith;
+    still = λ told. refl;
+    left = λ told. started g.moment g.left_since site _ (λ c left. same_log Journal hub.journal.start (g.may_leave site) c (now c told left));
+    read = λ told. read-none (g.shown site).journal hub (ap (λ (j : JournalView). j.place) unread.journal) unread.none;
+  }
+
+  module _ (begun site after : S) (first hub : Hub) (journal : JournalView) (so_far : Reading begun site first hub) (counts : (t : ℕ) (c : Image) → g.told → t ≤ g.moment site → g.may_leave site c → g.left_since site t c) where
+    same_start : hub.journal.start ≡ first.journal.start
+    same_start = ap (λ (j : JournalView). j.start) so_far.journal
+
+    -- one call more keeps the groups since the run began
+    run-keeps : (failed then : Type 0) → (failed → then) → (then → failed) → KeepsGroups g (log_of hub.journal) then site after → KeepsGroups g (log_of first.journal) failed begun after
+    run-keeps failed then to back keeps =
+        keeps_on g (log_of first.journal) failed then begun site after to back counts so_far.still so_far.faults so_far.left
+        (subst (λ (n : ℕ). KeepsGroups g (log_of (record hub.journal { start = n })) then site after) same_start keeps)
+
+    run-kept : (new : Hub) → new ≡ record (at_place hub journal) { catalogue = new.catalogue; store = new.store; facts = new.facts; last = new.last } → new ≡ record first { journal = new.journal; catalogue = new.catalogue; store = new.store; facts = new.facts; last = new.last }
+    run-kept new is =
+        is ∙ ap (λ (h : Hub). let n : Hub = record h { journal = journal; catalogue = new.catalogue; store = new.store; facts = new.facts; last = new.last } in n) so_far.kept
+        ∙ ap (λ (j : JournalView). let n : Hub = record first { journal = j; catalogue = new.catalogue; store = new.store; facts = new.facts; last = new.last } in n) (sym (ap (λ (h : Hub). h.journal) is))
+
+    -- the journal couldn't be read on
+    pub run-stopped : (e : LogError) → FindsFact g (Err e) hub.journal site journal after → ReadsOn g {A = Option (ℕ × Fact)} (DamagedFact (g.shown site).journal hub.journal.place) (Err e) (log_of hub.journal) site (log_of journal) after
+        → ReadsFacts g (Err (in_journal e)) first begun (at_place hub journal) after
+    run-stopped e finds reads = record {
+      kept = run-kept (at_place hub journal) refl;
+      journal = tt;
+      stands = tt;
+      numbered = tt;
+      read = λ told. tt;
+      damaged = λ told d is.
+          let same : in_journal e ≡ damaged d = cc in
+          let by = by-damage damage_at e d same in
+          let here : DamagedFact (g.shown site).journal hub.journal.place by.0 = reads.damaged told by.0 (ap Err by.1) in
+          let there : DamagedFact (g.shown begun).journal hub.journal.place by.0 = subst (λ (i : Image). DamagedFact i.journal hub.journal.place by.0) (so_far.still told) here in
+          (ap (λ (x : Damage). x.file) by.2, subst (λ (n : ℕ). DamagedJournal (g.shown begun).journal n) (sym (ap (λ (x : Damage). x.at) by.2)) (no-fact (g.shown begun).journal hub by.0 (so_far.read told) there));
+      not_made = λ is. let same : in_journal e ≡ not_made = cc in reads.not_made (ap Err (by-header damage_at e same));
+      not_empty = λ is. let same : in_journal e ≡ no_first = cc in no-first damage_at e same;
+      unchanged = λ told err fine. reads.unchanged told err (λ is. let same : e ≡ SiteFault = cc in fine (ap (λ x. Err (in_journal x)) same)) ∙ so_far.still told;
+      keeps = run-keeps _ _ (λ is. let same : in_journal e ≡ site_fault = cc in ap Err (by-fault damage_at e same)) (λ is. let same : e ≡ SiteFault = cc in ap (λ x. Err (in_journal x)) same) reads.keeps;
+    }
+
+    -- a fact was found
+    module _ (at : ℕ) (fact : Fact) (finds : FindsFact g (Ok (Some (at, fact))) hub.journal site journal after) (reads : ReadsOn g {A = Option (ℕ × Fact)} (DamagedFact (g.shown site).journal hub.journal.place) (Ok (Some (at, fact))) (log_of hub.journal) site (log_of journal) after) (new : Hub) where
+      mid_facts : (facts : List Fact) → HasFacts facts hub → HasFacts facts (at_place hub journal)
+      mid_facts facts h = record { catalogue = h.catalogue; messages = h.messages; counted = h.counted; last = h.last }
+
+      next : g.told → NextFact (g.shown begun).journal hub.journal journal at fact
+      next told = subst (λ (i : Image). NextFact i.journal hub.journal journal at fact) (so_far.still told) (finds.fact told)
+
+      moments : g.told → LeavesOnly g.moment g.left_since begun after (After Journal (SameFrom first.journal.start) (g.may_leave begun))
+      moments told = (run-keeps _ _ (λ is. is) (λ is. is) reads.keeps).any_moment told
+
+      -- but it may not follow, or there is no memory
+      pub run-refused : (e : OpenError) → TakesFact at fact (Err e) (at_place hub journal) new → ReadsFacts g (Err e) first begun new after
+      run-refused e takes = record {
+        kept = run-kept new takes.kept;
+        journal = tt;
+        stands = tt;
+        numbered = tt;
+        read = λ told. tt;
+        damaged = λ told d is. ⊎_elim
+            (λ none. absurd (let same : Err (damaged d) ≡ Err no_memory = sym is ∙ none in cc))
+            (λ bad.
+            let same : damage_at at ≡ d = let both : Err (damaged (damage_at at)) ≡ Err (damaged d) = sym bad.0 ∙ is in cc in (
+              ap (λ (x : Damage). x.file) (sym same),
+              subst (λ (x : Damage). DamagedJournal (g.shown begun).journal x.at) same
+                  (not-next (g.shown begun).journal hub journal at fact (so_far.read told) (next told) (bad.1 (so_far.read told).facts (mid_facts (so_far.read told).facts (so_far.read told).has))),
+            ))
+            takes.refused;
+        not_made = λ is. ⊎_elim (λ none. let same : Err not_made ≡ Err no_memory = sym is ∙ none in cc) (λ bad. let same : Err not_made ≡ Err (damaged (damage_at at)) = sym is ∙ bad.0 in cc) takes.refused;
+        not_empty = λ is. ⊎_elim (λ none. let same : Err no_first ≡ Err no_memory = sym is ∙ none in cc) (λ bad. let same : Err no_first ≡ Err (damaged (damage_at at)) = sym is ∙ bad.0 in cc) takes.refused;
+        unchanged = λ told err fine. finds.still told ∙ so_far.still told;
+        keeps = run-keeps _ _ (λ is. absurd (no_fault is)) (λ is. absurd cc) reads.keeps;
+      }
+        where
+          no_fault : IsErrOf {T = Unit {0}} (Err e) site_fault → ⊥
+          no_fault is = ⊎_elim (λ none. let same : Err site_fault ≡ Err no_memory = sym is ∙ none in cc) (λ bad. let same : Err site_fault ≡ Err (damaged (damage_at at)) = sym is ∙ bad.0 in cc) takes.refused
+
+      -- and is taken
+      pub run-on : (done : Unit {0}) → TakesFact at fact (Ok done) (at_place hub journal) new → Reading begun after first new
+      run-on done takes =
+          let same : new.journal ≡ journal = ap (λ (h : Hub). h.journal) takes.kept in
+          record {
+            stands = subst (λ (j : JournalView). LogStands g (log_of j) after) (sym same) reads.stands;
+            whole = so_far.whole;
+            journal = same ∙ finds.moved ∙ (λ i. record ((so_far.journal) i) { place = journal.place }) ∙ (λ i. record first.journal { place = ((sym same) i).place });
+            numbered = takes.numbered;
+            few = omega (arith, takes.counted, so_far.few, finds.onward.0, ap (λ (j : JournalView). j.place) same);
+            kept = run-kept new takes.kept;
+            faults = omega (arith, so_far.faults, reads.keeps.cause.no_fewer);
+            still = λ told. finds.still told ∙ so_far.still told;
+            left = moments;
+            read = λ told.
+                let was = so_far.read told in
+                let goes = takes.taken was.facts (mid_facts was.facts was.has) in
+                read-more (g.shown begun).journal hub new journal at fact was (next told) goes.0 goes.1 same;
+          }
+
+    -- the journal was read to its end
+    pub run-ended : (done : Unit {0}) → FindsFact g (Ok None) hub.journal site journal after → ReadsOn g {A = Option (ℕ × Fact)} (DamagedFact (g.shown site).journal hub.journal.place) (Ok None) (log_of hub.journal) site (log_of journal) after
+        → ReadsFacts g (Ok done) first begun (at_place hub journal) after
+    run-ended done finds reads =
+        let keeps = run-keeps (IsErrOf (Ok done) site_fault) _ (λ is. absurd cc) (λ is. absurd cc) reads.keeps in
+        record {
+          kept = run-kept (at_place hub journal) refl;
+          journal = finds.ended ∙ (λ i. record ((so_far.journal) i) { length = journal.length; ended = true }) ∙ (λ i. record first.journal { place = (ap (λ (j : JournalView). j.place) (sym finds.ended)) i; length = journal.length; ended = true });
+          stands = reads.stands;
+          numbered = so_far.numbered;
+          read = λ told.
+              let was = so_far.read told in
+              let st = so_far.stands told in
+              let before = g.shown begun in
+              let now = g.shown after in
+              let inside : hub.journal.place ≤ length before.journal = subst (λ (i : Image). hub.journal.place ≤ length i.journal) (so_far.still told) (place-inside (g.shown site).journal (g.may_leave site) (log_of hub.journal) st) in
+              let end : NoFact before.journal now.journal hub.journal journal = subst (λ (i : Image). NoFact i.journal now.journal hub.journal journal) (so_far.still told) (finds.end told) in
+              let others : now ≡ with_bytes Journal now.journal before = step_others Journal (SameFrom first.journal.start) before now (keeps.shown told (λ is. absurd cc)) in
+              read-end before now hub (at_place hub journal) (same_start ∙ so_far.whole) inside was end
+              (record { catalogue = was.has.catalogue; messages = was.has.messages; counted = was.has.counted; last = was.has.last }) others;
+          damaged = λ told d is. absurd cc;
+          not_made = λ is. absurd cc;
+          not_empty = λ is. absurd cc;
+          unchanged = λ told err fine. absurd (let no : false ≡ true = err in cc);
+          keeps = keeps;
+        }

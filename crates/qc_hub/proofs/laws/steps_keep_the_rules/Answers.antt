@@ -1,5 +1,0 @@
-use Rattle.qc_hub.proofs.Rules.{step-refused, step-moments, step-facts}
-use Rattle.qc_hub.proofs.laws.steps_keep_the_rules.Goals as goal
-
-pub returns : goal.returns
-returns c = record { refused = step-refused; moments = step-moments; facts = step-facts }

@@ -1,0 +1,11 @@
+pub mod History
+pub mod Laws
+pub mod Listing
+pub mod Opening
+pub mod Recorded
+pub mod Refuse
+pub mod Sending
+pub mod Sites
+pub mod State
+pub mod Step
+pub mod Steps

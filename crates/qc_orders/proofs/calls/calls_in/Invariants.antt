@@ -1,7 +1,0 @@
-use Rattle.std.proofs.Common.{◌≡◌, ◌++◌, drop, option_map}
-use Rattle.serde_json.specs.View.{items_view}
-use Rattle.qc_orders.specs.Orders.{calls_in}
-use Rattle.qc_orders.proofs.calls.calls_in.Given as goal
-
-abbrev pub invariant-loop-value : goal.invariant-loop-value
-invariant-loop-value l = calls_in (items_view l.values) ≡ option_map (λ more. l.calls.items ++ more) (calls_in (items_view (drop l.value-index l.values)))
