@@ -48,6 +48,10 @@ pub on_ok : {A E : Type 0} (r : Result A E) (P Q : Type 0) → (P → Q) → OnO
 on_ok (Ok v) P Q next p = next p
 on_ok (Err e) P Q next p = tt
 
+pub on_any : {A E : Type 0} (r : Result A E) (P : Type 0) → P → OnOk r P
+on_any (Ok v) P p = p
+on_any (Err e) P p = tt
+
 pub no_other : {A : Type 0} (r : Result A CreateError) → IsErr r → ¬ IsErrOf r SiteFault → ¬ IsErrOf r NoMemory → ¬ IsErrOf r AlreadyMade → ((e : CatalogueError) → ¬ IsErrOf r (BadCatalogue e)) → ⊥
 no_other (Ok v) err fault memory made bad = absurd (false≢true err)
 no_other (Err SiteFault) err fault memory made bad = fault refl

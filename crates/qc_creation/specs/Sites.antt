@@ -20,8 +20,8 @@ pub record IsCreated (text : List ℕ) (was now : Image) : Type 0 where
   pub snap : now.snap ≡ was.snap
   pub stands : StandsFor by_text now (InForce text ∷ [])
 
--- The image is being made from the text over one that wasn't made: it isn't made either, and some of the catalogue's rows, from the first on, have their
--- opening amounts. All other rows and the snapshot are as they were.
+-- The image is being made from the text over one that wasn't made: it isn't made either, and some of the catalogue's
+-- rows, from the first on, have their opening amounts. All other rows and the snapshot are as they were.
 pub record IsUnfinished (text : List ℕ) (was now : Image) : Type 0 where
   pub fresh : ¬ IsMade was
   pub unmade : ¬ IsMade now

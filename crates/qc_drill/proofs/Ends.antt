@@ -21,7 +21,7 @@ use Rattle.std.specs.Prelude.{codes}
 use Rattle.std.specs.Str.{bytes_eq}
 use Rattle.std.proofs.lemmas.Slice.Eq.{bytes_eq-Decides}
 use Rattle.qc_drill.specs.Words.{is_word}
-use Rattle.qc_drill.specs.Inits.{is_of_init, LeavesInit, Inits}
+use Rattle.qc_drill.specs.Inits.{is_of_init, LeavesInit, ReadsWhole, Inits}
 use Rattle.qc_journal.specs.History.{IsMade}
 use Rattle.qc_drill.specs.Headline.{programs_limits, is_of_drill, is_of_run, is_unfailed, is_unmade, is_empty_site, WritesReplies, Drills}
 use Rattle.qc_drill.specs.Reads.{most_input, ReadsBy}
@@ -204,3 +204,11 @@ pub was-made-before : {S : Type 0} (g : Ghosts S) (status : Status) (site after 
 was-made-before g status site after left left_now contents now d told e =
     let leaves : LeavesInit AlreadyMade d.text (g.shown site) (g.shown after) = subst (λ (x : Status). LeavesInit x d.text (g.shown site) (g.shown after)) e (d.leaves told) in
     leaves.0
+
+pub init-end : {S : Type 0} (g : Ghosts S) (status : Status) (site after : S) (left left_now contents now : Option (List ℕ)) → Inits g status site left contents after left_now now → status ≡ Done → IfSome left (λ bytes. left_now ≡ Some [])
+init-end g status site after left left_now contents now d e =
+    let w : ReadsWhole Done d.text left = subst (λ (x : Status). ReadsWhole x d.text left) e d.whole in
+    where-told left (λ bytes. left_now ≡ Some []) (λ bytes is.
+    let t = d.source bytes is in
+    let none : t.rest ≡ [] = empty t.rest (omega (arith, ap length t.is, length-append d.text t.rest, ap length (w.1 bytes is))) in
+    t.left ∙ ap (λ (r : List ℕ). Some r) none)

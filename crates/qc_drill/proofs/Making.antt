@@ -1,5 +1,6 @@
 -- The making of a site, by how it ended.
-use Rattle.std.proofs.Common.{◌≡◌, ◌⊎◌, ◌≤◌, ◌<◌, ℕ, ◌+◌, List, [], ◌∷◌, ◌++◌, length, length-append, take, drop, refl, sym, ap, ◌∙◌, subst, inl, inr, ⊎_elim, take-append-drop, arith, true, false, Option, Some, IfSome, Ok, Err}
+use Rattle.std.proofs.Common.{◌≡◌, ◌⊎◌, ◌≤◌, ◌<◌, ℕ, ◌+◌, List, [], ◌∷◌, ◌++◌, length, length-append, take, drop, refl, sym, ap, ◌∙◌, subst, inl, inr, ⊎_elim, take-append-drop, arith, true, false, cond, nat_le, Option, Some, IfSome, Ok, Err}
+use Rattle.std.proofs.lemmas.Bool.{leb-true}
 use Rattle.std.specs.Prelude.{Result, Vec, Bool}
 use Rattle.std.specs.declared.alloc.Global.{Global}
 use Rattle.qc_protocol.specs.declared.status.Status.{Status}
@@ -13,7 +14,9 @@ use Rattle.qc_site.proofs.Moments.{weaker, joined}
 use Rattle.qc_frame.specs.Calls.{LooksAt}
 use Rattle.qc_journal.specs.History.{IsMade, journal_header}
 use Rattle.qc_catalogue.specs.declared.error.CatalogueError.{CatalogueError}
-use Rattle.qc_catalogue.specs.Catalogue.{catalogue_of}
+use Rattle.qc_catalogue.specs.declared.catalogue.Catalogue.{Catalogue}
+use Rattle.qc_catalogue.specs.declared.error.CatalogueError.TheVariants.{TextTooLong}
+use Rattle.qc_catalogue.specs.Catalogue.{IsCatalogueOf, catalogue_of, of_document, document_of}
 use Rattle.qc_creation.specs.declared.error.CreateError.{CreateError}
 use Rattle.qc_creation.specs.declared.error.CreateError.TheVariants.{SiteFault as create_fault, AlreadyMade as create_made, BadCatalogue as create_bad, NoMemory as create_memory}
 use Rattle.qc_creation.specs.Calls.{CreatesSite}
@@ -26,6 +29,17 @@ use Rattle.qc_drill.specs.Stops.{status_of}
 use Rattle.qc_drill.proofs.Joined.{wrote-none}
 use Rattle.qc_drill.proofs.Openings.{held-all, held-part, held-none}
 use Rattle.qc_drill.proofs.Reading.{took-none, took-joined}
+
+-- a text that is a catalogue isn't too long for one
+short-text : (text : List ℕ) (c : Catalogue) → IsCatalogueOf text c → nat_le (length text) longest_text ≡ true
+short-text text c is = by_test (nat_le (length text) longest_text) refl
+  where
+    not_ok : (r : Result Catalogue CatalogueError) → r ≡ Err TextTooLong → r ≡ Ok c → ⊥
+    not_ok r bad good = cc
+
+    by_test : (b : Bool) → nat_le (length text) longest_text ≡ b → b ≡ true
+    by_test true e = refl
+    by_test false e = absurd (not_ok (catalogue_of text) (ap (λ b. cond b (of_document (document_of text)) (Err TextTooLong)) e) is)
 
 -- a text that was read
 pub record HasText (text : List ℕ) (left left_now : Option (List ℕ)) : Type 0 where
@@ -188,7 +202,7 @@ module _ {S : Type 0} (g : Ghosts S) where
       said = [];
       source = has.source;
       most = has.most;
-      whole = has.whole;
+      whole = (creates.valid, has.whole (leb-true (length text) longest_text (short-text text creates.valid.0 creates.valid.1)));
       wrote = wrote-none contents;
       says = refl;
       leaves = λ told. subst (λ (i : Image). IsCreated text i (g.shown after)) (same-here told) (creates.created told);

@@ -63,6 +63,6 @@ pub record StopsOpening (s : State) (text : List ℕ) (before now : Images) : Ty
   pub front : IsFrontOf (opened_out s) text
   pub images : (c : Image) → now c → LeavesSame before c
 
--- while the site is opened, an image has the groups of one before, and from then on it is as above
+-- an image has the groups of one before, as while the site is opened, or it is as above
 abbrev pub LeavesOpened : Images → State → List (List ℕ) → Image → Type 0
 LeavesOpened before s lines c = LeavesSame before c ⊎ LeavesFront before s lines c

@@ -8,7 +8,8 @@ use Rattle.qc_site.specs.Disk.{LeavesOnly}
 use Rattle.qc_site.specs.Image.{Image}
 use Rattle.qc_journal.specs.History.{IsMade}
 use Rattle.qc_catalogue.specs.declared.error.CatalogueError.{CatalogueError}
-use Rattle.qc_catalogue.specs.Catalogue.{catalogue_of}
+use Rattle.qc_catalogue.specs.declared.catalogue.Catalogue.{Catalogue}
+use Rattle.qc_catalogue.specs.Catalogue.{IsCatalogueOf, catalogue_of}
 use Rattle.qc_catalogue.specs.Texts.{error_text}
 use Rattle.qc_creation.specs.Sites.{IsCreated, IsUnfinished, LeavesCreating}
 use Rattle.qc_drill.specs.declared.stop.Stop.{Stop}
@@ -70,9 +71,10 @@ LeavesInit SiteFault text before now = Unit {0}
 LeavesInit NoMemory text before now = (¬ IsMade before) × ((now ≡ before) ⊎ IsUnfinished text before now)
 LeavesInit _ text before now = (¬ IsMade before) × (now ≡ before)
 
--- the text was read to its end, or past the longest, before the site was looked at as a catalogue's
+-- what was read, by the status: a catalogue, which is all that the source had; or a text that was read to its end, or
+-- past the longest
 abbrev pub ReadsWhole : Status → List ℕ → Option (List ℕ) → Type 0
-ReadsWhole Done text left = length text ≤ longest_text → (bytes : List ℕ) → left ≡ Some bytes → bytes ≡ text
+ReadsWhole Done text left = ((c : Catalogue) × IsCatalogueOf text c) × ((bytes : List ℕ) → left ≡ Some bytes → bytes ≡ text)
 ReadsWhole BadCatalogue text left = length text ≤ longest_text → (bytes : List ℕ) → left ≡ Some bytes → bytes ≡ text
 ReadsWhole _ text left = Unit {0}
 
@@ -90,7 +92,8 @@ module _ {S : Type 0} (g : Ghosts S) where
     pub wrote : Wrote said contents now
     pub says : SaysInit status text said
     pub leaves : g.told → LeavesInit status text (g.shown site) (g.shown after)
-    pub certain : g.told → status ≡ Done → (c : Image) → g.may_leave after c → (was : Image) × g.may_leave site was × IsCreated text was c
+    pub certain : g.told → status ≡ Done →
+        (c : Image) → g.may_leave after c → (was : Image) × g.may_leave site was × IsCreated text was c
     pub any_moment : g.told → LeavesOnly g.moment g.left_since site after (LeavesCreating text (g.may_leave site))
 
 -- what the sink holds after the line, behind what it held, by the status

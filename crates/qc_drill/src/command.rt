@@ -59,8 +59,7 @@ pub fn run<S: Site, I: Source, O: Sink>(
     ensures sink_fault { result ≡ Status.SinkFault → Rose (O.faults sink.old) (O.faults sink.new) }
     ensures site_fault { result ≡ Status.SiteFault → Rose (S.faults site.old) (S.faults site.new) }
     // By the bytes alone, whatever site and sink tell.
-    ensures done { is_drill words.now.items ≡ true → result ≡ Status.Done
-        → IfSome (I.left source.old) (λ bytes. I.left source.new ≡ Some []) }
+    ensures done { result ≡ Status.Done → IfSome (I.left source.old) (λ bytes. I.left source.new ≡ Some []) }
     ensures input_long { result ≡ Status.InputLong → IfSome (I.left source.old) (λ bytes. most_input < length bytes) }
     ensures not_made { S.told → result ≡ Status.NotMade → ¬ HasHeaders (S.shown site.old) }
     ensures no_catalogue { S.told → result ≡ Status.NoCatalogue → HasNoGroup (S.shown site.old) }

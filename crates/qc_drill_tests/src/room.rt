@@ -42,8 +42,7 @@ fn told(reply: &Reply, made: u64) -> (u64, u64) {
 }
 
 // A send by each of the two calls, each by a hub of its own, where the file may have so many bytes more than when it
-// was made. The length of a
-// file that has no room is told by what it has more.
+// was made. The length of a file that has no room is told by what it has more.
 fn two_sends(alloc: Global, more: u64) -> Result<[(u64, u64); 2], Fail> {
     let mut site = new_site(alloc)?;
     let made = site.len(FILE)?;

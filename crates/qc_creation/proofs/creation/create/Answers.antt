@@ -9,13 +9,15 @@ use Rattle.qc_site.proofs.Moments.{weaker, joined}
 use Rattle.qc_frame.specs.Gate.{After}
 use Rattle.qc_frame.specs.Log.{BeingMade}
 use Rattle.qc_journal.specs.History.{IsMade}
+use Rattle.qc_catalogue.specs.declared.catalogue.Catalogue.{Catalogue}
 use Rattle.qc_catalogue.specs.declared.catalogue.Resource.{Resource}
+use Rattle.qc_catalogue.specs.Catalogue.{IsCatalogueOf}
 use Rattle.qc_machine.specs.Sites.{log_header}
 use Rattle.qc_creation.specs.Rows.{opening_rows, rows_of, LeavesFront}
 use Rattle.qc_creation.specs.Sites.{IsCreated, LeavesCreating}
 use Rattle.qc_creation.specs.Parts.{MakesRows, BeginsJournal, HasOnly, Begins}
 use Rattle.qc_creation.proofs.Filling.{Now, empty_unbegun}
-use Rattle.qc_creation.proofs.Creating.{Stage, HasLog, AllFresh, AllStaged, on_ok, no_other, new_log, stage_none, stage_log, stage_rows, stage_journal, log_rows, all_done, created, each_fresh, leaves_log, each_log, leaves_rows, each_row, leaves_journal, each_created}
+use Rattle.qc_creation.proofs.Creating.{Stage, HasLog, AllFresh, AllStaged, on_ok, on_any, no_other, new_log, stage_none, stage_log, stage_rows, stage_journal, log_rows, all_done, created, each_fresh, leaves_log, each_log, leaves_rows, each_row, leaves_journal, each_created}
 use Rattle.qc_creation.proofs.creation.create.Goals as goal
 
 pub returns-in_err-make : goal.returns-in_err-make
@@ -36,6 +38,7 @@ returns-in_err-make g c =
     let to1 : site.told → LeavesOnly site.moment site.left_since s0 s1 P = λ told. weaker site.moment site.left_since s0 s1 before P (λ i here. (i, here, inl refl)) (prepared.writes.any_moment told) in
     let to2 : site.told → LeavesOnly site.moment site.left_since s0 s2 P = λ told. joined site.moment site.left_since s0 s1 s2 P (to1 told) (weaker site.moment site.left_since s1 s2 (After CrmLog BeingMade (site.may_leave s1)) P (leaves_log text cat read before (site.may_leave s1) (fresh told)) (making told)) in
     record {
+      valid = search rules;
       created = search rules;
       certain = search rules;
       made = search rules;
@@ -70,6 +73,7 @@ returns-in_err-make_all_rows g c =
     let staged2 : site.told → AllStaged text cat read [] before (site.may_leave s2) = λ told. each_log text cat read before (site.may_leave s1) (site.may_leave s2) (fresh told) (λ i here. (making told).each i (g.met.S.Site.counts_now s2 (site.moment s1) i told (making told).later here)) (c.in_ok-make.ensures.certain told) in
     let to3 : site.told → LeavesOnly site.moment site.left_since s0 s3 P = λ told. joined site.moment site.left_since s0 s2 s3 P (to2 told) (weaker site.moment site.left_since s2 s3 (LeavesFront all (site.may_leave s2)) P (leaves_rows text cat read before (site.may_leave s2) (staged2 told)) (rows.any_moment told)) in
     record {
+      valid = search rules;
       created = search rules;
       certain = search rules;
       made = search rules;
@@ -115,6 +119,7 @@ returns g c =
     let stage3 : site.told → Stage all (site.shown s0) (site.shown s3) = λ told. stage_rows all (site.shown s0) (site.shown s2) (site.shown s3) (stage2 told) (done.made told) in
     let log3 : site.told → HasLog (site.shown s3) = λ told. log_rows all (site.shown s2) (site.shown s3) (log2 told) (done.made told) in
     record {
+      valid = on_any c.begin_journal.result ((k : Catalogue) × IsCatalogueOf text k) (cat, read);
       created = λ told. on_ok c.begin_journal.result (FileStep the_file (Now (HasOnly (InForce text))) (site.shown s3) (site.shown s4)) (IsCreated text (site.shown s0) (site.shown s4))
           (λ step. created text cat read (site.shown s0) (site.shown s3) (site.shown s4) step.bytes (stage3 told) (log3 told) step.by step.is) (begins.begun told);
       certain = λ told. on_ok c.begin_journal.result ((i : Image) → site.may_leave s4 i → After the_file (Now (HasOnly (InForce text))) (site.may_leave s3) i) ((i : Image) → site.may_leave s4 i → (was : Image) × before was × IsCreated text was i)

@@ -3,7 +3,7 @@ use Rattle.qc_protocol.specs.declared.status.Status.TheVariants.{AlreadyMade, Ba
 use Rattle.qc_hub.proofs.Later.{not-both}
 use Rattle.qc_drill.specs.Headline.{is_of_drill}
 use Rattle.qc_drill.specs.Inits.{is_of_init}
-use Rattle.qc_drill.proofs.Ends.{of-run, of-run-init, not-among, words-apart, was-made-before, not-bad, done-end, long-input, all-moments, not-made, no-group, damaged-none, is-unfailed, is-unmade, is-empty}
+use Rattle.qc_drill.proofs.Ends.{of-run, of-run-init, not-among, words-apart, was-made-before, not-bad, done-end, init-end, long-input, all-moments, not-made, no-group, damaged-none, is-unfailed, is-unmade, is-empty}
 use Rattle.qc_drill.proofs.command.run.Goals as goal
 
 pub returns-then-is_drill-clause-bad_words : goal.returns-then-is_drill-clause-bad_words
@@ -22,7 +22,7 @@ pub returns-then-is_drill-clause-site_fault : goal.returns-then-is_drill-clause-
 returns-then-is_drill-clause-site_fault g c = c.drill.ensures.site_cause.cause
 
 pub returns-then-is_drill-clause-done : goal.returns-then-is_drill-clause-done
-returns-then-is_drill-clause-done g c = λ word. done-end g.S.Site c.drill.result c.args.site.now c.drill.new.site _ _ _ _ c.drill.ensures.drills
+returns-then-is_drill-clause-done g c = done-end g.S.Site c.drill.result c.args.site.now c.drill.new.site _ _ _ _ c.drill.ensures.drills
 
 pub returns-then-is_drill-clause-input_long : goal.returns-then-is_drill-clause-input_long
 returns-then-is_drill-clause-input_long g c = long-input g.S.Site c.drill.result c.args.site.now c.drill.new.site _ _ _ _ c.drill.ensures.drills
@@ -77,7 +77,7 @@ pub returns-then-is_init-clause-site_fault : goal.returns-then-is_init-clause-si
 returns-then-is_init-clause-site_fault g c = c.init.ensures.site_cause.cause
 
 pub returns-then-is_init-clause-done : goal.returns-then-is_init-clause-done
-returns-then-is_init-clause-done g c = λ word. absurd (not-both _ (sym c.is_drill.ensures ∙ c.if-is_drill.false) word)
+returns-then-is_init-clause-done g c = init-end g.S.Site c.init.result c.args.site.now c.init.new.site _ _ _ _ c.init.ensures.inits
 
 pub returns-then-is_init-clause-input_long : goal.returns-then-is_init-clause-input_long
 returns-then-is_init-clause-input_long g c = λ e. absurd (not-among is_of_init c.init.result InputLong c.init.ensures.inits.kinds refl e)
