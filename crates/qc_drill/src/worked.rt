@@ -57,11 +57,15 @@ pub fn a_fact_without_its_tag_is_damage()
 pub fn a_send_takes_its_room()
     ensures fits { run_out (made_within 1737) send_and_queues ≡ sent_and_listed }
     ensures full { run_out (made_within 1736) send_and_queues ≡ full_and_listed }
-{}
+{
+    the_sample_is_a_catalogue();
+}
 
 /// The moment used doesn't fall, a blank line has no reply, a line that is no order is refused by its member at fault,
 /// and a last line needs no newline.
 pub fn two_sends_are_listed()
     ensures replies { run_out just_made two_sends_and_queues ≡ two_sent_and_listed }
     ensures ended { run_out just_made (two_sends_and_queues ++ 10 ∷ []) ≡ two_sent_and_listed }
-{}
+{
+    the_sample_is_a_catalogue();
+}

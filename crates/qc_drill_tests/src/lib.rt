@@ -131,6 +131,8 @@ mod inits;
 #[cfg(test)]
 mod limits;
 #[cfg(test)]
+mod recording;
+#[cfg(test)]
 mod replies;
 #[cfg(test)]
 mod room;

@@ -24,10 +24,10 @@ fn padded(alloc: Global, line: &[u8], count: usize) -> Result<Vec<u8>, Fail> {
 fn line_of_calls(alloc: Global, count: usize) -> Result<Vec<u8>, Fail> {
     let mut line = Vec::new(alloc);
     line.extend_from_slice(
-        b"{\"at\":0,\"do\":\"send\",\"app\":\"Orders\",\"component\":\"Order\",\"calls\":[[\"Ping\"]",
+        b"{\"at\":0,\"do\":\"send\",\"app\":\"Orders\",\"component\":\"Plain\",\"calls\":[[\"Doom\"]",
     )?;
     for _ in 1..count {
-        line.extend_from_slice(b",[\"Ping\"]")?;
+        line.extend_from_slice(b",[\"Doom\"]")?;
     }
     line.extend_from_slice(b"]}\n")?;
     Ok(line)
@@ -43,7 +43,7 @@ fn lines_and_orders_have_limits(rt: HostRuntime) -> Result<(), Fail> {
         (padded(alloc, LIST_UNENDED, 65_536)?, LISTED_NONE),
         (padded(alloc, LIST_UNENDED, 65_537)?, LINE_TOO_LONG),
         (line_of_calls(alloc, 64)?, SENT_1),
-        (line_of_calls(alloc, 65)?, NOT_BUILT),
+        (line_of_calls(alloc, 65)?, TOO_MANY_CALLS),
     ];
     for (line, reply) in table {
         let mut site = new_site(alloc)?;

@@ -23,7 +23,7 @@ fn lines_have_their_replies(rt: HostRuntime) -> Result<(), Fail> {
         (&[TAKE, LIST], &[NOT_BUILT, LISTED_NONE]),
         (&[SEND_AT_0_AND_5, LIST], &[SENT_1, LISTED_1_AT_5]),
         (&[SEND_MOST, LIST], &[SENT_1, LISTED_1]),
-        (&[SEND_TOO_MUCH, LIST], &[NOT_BUILT, LISTED_NONE]),
+        (&[SEND_TOO_MUCH, LIST], &[BAD_AMOUNT, LISTED_NONE]),
         (&[LIST_NOT_UTF8], &[NO_LINE]),
     ];
     for (input, replies) in table {

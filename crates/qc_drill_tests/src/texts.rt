@@ -14,10 +14,10 @@ pub const SEND_AT_0_AND_5: &[u8] =
     b"{\"at\":0,\"do\":\"send\",\"app\":\"Orders\",\"component\":\"Order\",\"calls\":[[\"Place\",\"bolt\",4]],\"at\":5}\n";
 
 pub const SEND_MOST: &[u8] =
-    b"{\"at\":0,\"do\":\"send\",\"app\":\"Orders\",\"component\":\"Order\",\"calls\":[[\"Place\",1000000000000000]]}\n";
+    b"{\"at\":0,\"do\":\"send\",\"app\":\"Orders\",\"component\":\"Order\",\"calls\":[[\"Place\",\"bolt\",1000000000000000]]}\n";
 
 pub const SEND_TOO_MUCH: &[u8] =
-    b"{\"at\":0,\"do\":\"send\",\"app\":\"Orders\",\"component\":\"Order\",\"calls\":[[\"Place\",1000000000000001]]}\n";
+    b"{\"at\":0,\"do\":\"send\",\"app\":\"Orders\",\"component\":\"Order\",\"calls\":[[\"Place\",\"bolt\",1000000000000001]]}\n";
 
 pub const LIST: &[u8] = b"{\"at\":0,\"do\":\"queues\",\"app\":\"Orders\"}\n";
 
@@ -45,6 +45,10 @@ pub const SENT_1: &[u8] = b"sent 1\n";
 pub const SENT_2: &[u8] = b"sent 2\n";
 
 pub const NOT_BUILT: &[u8] = b"refused 3 NotBuilt\n";
+
+pub const BAD_AMOUNT: &[u8] = b"refused 12 BadArguments 1 2\n";
+
+pub const TOO_MANY_CALLS: &[u8] = b"refused 13 TooManyCalls\n";
 
 pub const NO_LINE: &[u8] = b"refused 2 Malformed line\n";
 

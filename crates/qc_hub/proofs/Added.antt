@@ -20,6 +20,7 @@ use Rattle.qc_frame.specs.Log.{LogView, WholeOrNot}
 use Rattle.qc_journal.specs.History.{SpellsHistory, fact_payload, journal_header}
 use Rattle.qc_journal.specs.Journal.{JournalView, appended}
 use Rattle.qc_catalogue.specs.declared.catalogue.Catalogue.{Catalogue}
+use Rattle.qc_recorder.specs.Fits.{recording_fits}
 use Rattle.qc_machine.specs.History.{History, by_text, no_facts, with_fact, is_legal, may_follow, names_exception}
 use Rattle.qc_machine.specs.State.{State, FileEnd, after_group, with_new_fact}
 use Rattle.qc_machine.specs.Sending.{added}
@@ -54,9 +55,9 @@ end-push old new fact more size inside =
     λ i. record { gate = gate i; size = end i }
 
 -- the message may be sent next
-pub next-follows : (s : State) (fact : Fact) (id at : ℕ) (r : Recording) → fact ≡ Sent id at r → is_fact fact ≡ true → is_legal by_text s.history.facts ≡ true → id ≡ length s.history.messages + 1 → s.history.last ≤ at → may_follow by_text s.history fact ≡ true
-next-follows s fact id at r is fits legal next later =
-    subst (λ (f : Fact). may_follow by_text s.history f ≡ true) (sym is) (send-follows by_text s.history id at r (legal-some by_text s.history.facts legal) next later (subst (λ (f : Fact). is_fact f ≡ true) is fits))
+pub next-follows : (s : State) (fact : Fact) (id at : ℕ) (r : Recording) → fact ≡ Sent id at r → is_fact fact ≡ true → is_legal by_text s.history.facts ≡ true → id ≡ length s.history.messages + 1 → s.history.last ≤ at → recording_fits s.history.catalogue r ≡ true → may_follow by_text s.history fact ≡ true
+next-follows s fact id at r is fits legal next later there =
+    subst (λ (f : Fact). may_follow by_text s.history f ≡ true) (sym is) (send-follows by_text s.history id at r (legal-some by_text s.history.facts legal) next later (subst (λ (f : Fact). is_fact f ≡ true) is fits) there)
 
 -- the state of a hub after a fact that was added
 pub record Grown (hub new : Hub) (fact : Fact) (id at : ℕ) (r : Recording) (old now : List ℕ) : Type 0 where
@@ -64,7 +65,9 @@ pub record Grown (hub new : Hub) (fact : Fact) (id at : ℕ) (r : Recording) (ol
   pub next : id ≡ length hub.store.messages + 1
   pub moment : at ≡ hub.last
   pub fits : is_fact fact ≡ true
+  pub there : (s : State) → IsHubOf hub s → recording_fits s.history.catalogue r ≡ true
   pub catalogue : new.catalogue ≡ hub.catalogue
+  pub clients : new.clients ≡ hub.clients
   pub store : new.store.messages ≡ after_sent id r (names_exception hub.catalogue r) at hub.store.messages
   pub counted : new.facts ≡ hub.facts + 1
   pub journal : new.journal ≡ appended hub.journal fact
@@ -86,10 +89,14 @@ stands-push d c s fact stands fits legal front more log = record {
   unused = ap groups log ∙ stands.unused;
 }
 
+-- what fits a hub's catalogue fits that of its state
+pub fits-in : (hub : Hub) (s : State) (r : Recording) → IsHubOf hub s → recording_fits hub.catalogue r ≡ true → recording_fits s.history.catalogue r ≡ true
+fits-in hub s r h fits = subst (λ (c : Catalogue). recording_fits c r ≡ true) h.catalogue fits
+
 -- the history stays legal
-pub grown-legal : (hub : Hub) (fact : Fact) (id at : ℕ) (r : Recording) (s : State) → IsHubOf hub s → is_legal by_text s.history.facts ≡ true → fact ≡ Sent id at r → id ≡ length hub.store.messages + 1 → at ≡ hub.last → is_fact fact ≡ true → is_legal by_text (s.history.facts ++ fact ∷ []) ≡ true
-grown-legal hub fact id at r s h legal is next moment fits =
-    let follows = next-follows s fact id at r is fits legal (next ∙ ap (λ (l : List Message). length l + 1) h.messages) (omega (arith, h.not_ahead, moment, h.last)) in
+pub grown-legal : (hub : Hub) (fact : Fact) (id at : ℕ) (r : Recording) (s : State) → IsHubOf hub s → is_legal by_text s.history.facts ≡ true → fact ≡ Sent id at r → id ≡ length hub.store.messages + 1 → at ≡ hub.last → is_fact fact ≡ true → recording_fits s.history.catalogue r ≡ true → is_legal by_text (s.history.facts ++ fact ∷ []) ≡ true
+grown-legal hub fact id at r s h legal is next moment fits there =
+    let follows = next-follows s fact id at r is fits legal (next ∙ ap (λ (l : List Message). length l + 1) h.messages) (omega (arith, h.not_ahead, moment, h.last)) there in
     legal-push by_text s.history.facts fact legal (subst (λ (x : History). may_follow by_text x fact ≡ true) h.settled follows)
 
 pub grown-site : (hub new : Hub) (fact : Fact) (id at : ℕ) (r : Recording) (shown now : Image) (s : State) → IsHubOf hub s → IsSiteOf shown s → now.crm_log ≡ shown.crm_log → Grown hub new fact id at r shown.journal now.journal → IsSiteOf now (with_new_fact fact s)
@@ -98,7 +105,7 @@ grown-site hub new fact id at r shown now s h site log g =
     let sized : hub.journal.length ≡ max (length shown.journal) (end_gate shown.journal + 1) = ap (λ (e : FileEnd). e.size) (sym h.journal ∙ site.journal) in
     let long : length now.journal ≡ max (length shown.journal) (end_gate shown.journal + 10 + length (spelled_fact fact)) = omega (arith, g.is_long, g.was_long, placed, ap (λ (j : JournalView). j.length) g.journal) in
     record {
-      stands = stands-push shown now s fact site.stands g.fits (grown-legal hub fact id at r s h site.stands.legal g.is g.next g.moment g.fits) g.front g.more log;
+      stands = stands-push shown now s fact site.stands g.fits (grown-legal hub fact id at r s h site.stands.legal g.is g.next g.moment g.fits (g.there s h)) g.front g.more log;
       journal = ap (λ (e : FileEnd). after_group (4 + length (spelled_fact fact)) e) site.journal ∙ end-push shown.journal now.journal fact g.more long (omega (arith, sized, g.was_long));
       log = site.log ∙ ap file_end (sym log);
     }
@@ -116,11 +123,13 @@ grown-hub hub new fact id at r old now s h g = subst (λ (f : Fact). IsHubOf new
           messages = g.store ∙ ap (λ (l : List Message). after_sent id r (names_exception hub.catalogue r) at l) h.messages ∙ ap (λ (c : Catalogue). after_sent id r (names_exception c r) at s.history.messages) h.catalogue;
           counted = g.counted ∙ ap (λ (n : ℕ). n + 1) h.counted ∙ sym (length_push s.history.facts (Sent id at r));
           last = g.last ∙ h.last;
+          clients = g.clients ∙ h.clients;
           limits = g.limits ∙ h.limits;
           journal = λ i. record { gate = gate i; size = end i };
           log = h.log ∙ (λ i. record { gate = (sym (ap (λ (l : LogView). l.place) g.log)) i; size = (sym (ap (λ (l : LogView). l.length) g.log)) i });
           settled = ap (λ (x : History). with_fact (Sent id at r) x) h.settled ∙ sym (after-push by_text no_facts s.history.facts (Sent id at r));
           not_ahead = omega (arith, g.moment, h.last);
+          recorded = h.recorded;
         }
 
 -- ids go up to the count, also with one message more

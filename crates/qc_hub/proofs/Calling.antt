@@ -1,4 +1,5 @@
--- Calls of the hub, put together: one that makes no call of the site, one that hands on another's, one behind the moment.
+-- Calls of the hub, put together: one that makes no call of the site, one that hands on another's, one behind the hub's
+-- own change.
 use Rattle.std.proofs.Common.{◌≡◌, ◌⊎◌, ℕ, List, [], ◌∷◌, ◌++◌, max, Bool, true, false, refl, sym, ap, ◌∙◌, subst, inl, inr, ⊎_elim, arith, Ok, Err, IfOk, IsErrOf}
 use Rattle.std.specs.declared.result.Result.{Result}
 use Rattle.qc_protocol.specs.declared.reply.Reply.{Reply}
@@ -8,16 +9,17 @@ use Rattle.qc_site.specs.declared.site.SiteFile.TheVariants.{Journal, CrmLog}
 use Rattle.qc_site.specs.Image.{Image, bytes_of}
 use Rattle.qc_site.specs.Disk.{Images, Certain, LeavesOnly}
 use Rattle.qc_site.proofs.Moments.{started, weaker, joined}
+use Rattle.qc_machine.specs.History.{History, by_text}
 use Rattle.qc_machine.specs.State.{State, at_moment}
-use Rattle.qc_machine.specs.Sites.{IsSiteOf, IsKept, LeavesOneOf}
-use Rattle.qc_machine.specs.Steps.{Step, Among, IsBetween}
+use Rattle.qc_machine.specs.Sites.{StandsFor, IsSiteOf, IsKept, LeavesOneOf}
+use Rattle.qc_machine.specs.Steps.{Step, stays, Among, IsBetween}
 use Rattle.qc_machine.proofs.Images.{image-stays, one-of, stays-same, stays-joined}
 use Rattle.qc_hub.specs.declared.error.HubError.{HubError}
 use Rattle.qc_hub.specs.declared.error.HubError.TheVariants.{SiteFault, NoMemory}
 use Rattle.qc_hub.specs.declared.hub.Hub.{Hub}
-use Rattle.qc_hub.specs.Stands.{IsHubOf, StepsTo}
-use Rattle.qc_hub.specs.Calls.{StandsSound, HubStands, IsReady, LeavesStanding, Starves, TakesStep, StepsBy}
-use Rattle.qc_hub.proofs.Later.{Later, Moved, later-hub, moved-hub, moved-ready, moved-limits, at-no-moment, not-both}
+use Rattle.qc_hub.specs.Stands.{IsHubOf, IsHubOn, StepsTo}
+use Rattle.qc_hub.specs.Calls.{KeepsSite, StandsSound, HubStands, IsReady, LeavesStanding, Starves, TakesStep, StepsBy}
+use Rattle.qc_hub.proofs.Later.{Later, Since, Moved, later-hub, later-ready, moved-hub, moved-ready, moved-limits, not-both}
 
 -- the second step behind the first
 abbrev pub u_after : Step → Step → Step
@@ -51,14 +53,22 @@ module _ {S : Type 0} (g : Ghosts S) where
   pub hurt-after : (s : State) (t : Step) (site after : S) → ((d : Image) → g.may_leave after d → g.left_since after (g.moment site) d) → LeavesOnly g.moment g.left_since site after (LeavesOneOf (g.may_leave site) (IsBetween s t)) → (c : Image) → g.may_leave after c → IsKept c
   hurt-after s t site after counts any c here = let left = any.each c (counts c here) in (left.state.history.facts, left.stands)
 
+-- the site of a state is that of another with the same history and logs
+pub kept-site : (shown : Image) (s t : State) → KeepsSite s t → IsSiteOf shown s → IsSiteOf shown t
+kept-site shown s t keeps on = record {
+  stands = subst (λ (h : History). StandsFor by_text shown h.facts) (sym keeps.history) on.stands;
+  journal = keeps.journal ∙ on.journal;
+  log = keeps.log ∙ on.log;
+}
+
 module _ {S : Type 0} (g : Ghosts S) (at : ℕ) where
-  -- a call that made none of the site
-  pub answered : (by : State → Step) (result : Result Reply HubError) (hub new : Hub) (site : S) → ((c : Image) → g.told → g.left_since site (g.moment site) c → g.may_leave site c)
-      → IsReady g hub site → Moved hub new at → ¬ IsErrOf result SiteFault → (g.told → (s : State) → IsHubOf hub s → IsSiteOf (g.shown site) s → IfOk result (StepsTo (by s) new (g.shown site)))
-      → StepsBy g at by result hub site new site
-  answered by result hub new site now ready moved no_fault answer =
+  -- a call that made none of the site, whatever it made of the hub
+  pub answered_in : (by : State → Step) (result : Result Reply HubError) (hub new : Hub) (site : S) → ((c : Image) → g.told → g.left_since site (g.moment site) c → g.may_leave site c)
+      → IsReady g hub site → IsReady g new site → new.limits ≡ hub.limits → ¬ IsErrOf result SiteFault
+      → ((s : State) → IsHubOf hub s → IsErrOf result NoMemory → IsHubOf new s ⊎ IsHubOf new (at_moment at s))
+      → (g.told → (s : State) → IsHubOf hub s → IsSiteOf (g.shown site) s → IfOk result (StepsTo (by s) new (g.shown site))) → StepsBy g at by result hub site new site
+  answered_in by result hub new site now ready after limits no_fault starves answer =
       let sound = ready.stands.sound ready.no_fault in
-      let after = moved-ready g hub new at site moved ready in
       record {
         told = λ told s h on.
             let journal = journal-certain g hub site sound told in
@@ -66,7 +76,7 @@ module _ {S : Type 0} (g : Ghosts S) (at : ℕ) where
             record {
               answer = answer told s h on;
               starved = λ e. record {
-                is_in = moved-hub hub new at s moved h;
+                is_in = starves s h e;
                 same = refl;
                 any_moment = started g.moment g.left_since site _ (λ c left. image-stays (g.may_leave site) (g.shown site) s (λ x. x ≡ s) on journal log refl c (now c told left));
               };
@@ -76,12 +86,29 @@ module _ {S : Type 0} (g : Ghosts S) (at : ℕ) where
         moment = λ e. absurd (no_fault e);
         leaves = record {
           stands = after.stands;
-          limits = moved-limits hub new at moved;
+          limits = limits;
           hurt = λ e. absurd (no_fault e);
           unhurt = λ e. absurd (not-both new.in_fault after.no_fault e);
           cause = record { no_fewer = omega arith; cause = λ e. absurd (no_fault e) };
         };
       }
+
+  pub answered : (by : State → Step) (result : Result Reply HubError) (hub new : Hub) (site : S) → ((c : Image) → g.told → g.left_since site (g.moment site) c → g.may_leave site c)
+      → IsReady g hub site → Moved hub new at → ¬ IsErrOf result SiteFault → (g.told → (s : State) → IsHubOf hub s → IsSiteOf (g.shown site) s → IfOk result (StepsTo (by s) new (g.shown site)))
+      → StepsBy g at by result hub site new site
+  answered by result hub new site now ready moved no_fault answer =
+      answered_in by result hub new site now ready (moved-ready g hub new at site moved ready) (moved-limits hub new at moved) no_fault (λ s h e. moved-hub hub new at s moved h) answer
+
+  -- a reply, and nothing else but the moment
+  pub replied : (by : State → Step) (reply : Reply) (hub new : Hub) (site : S) → ((c : Image) → g.told → g.left_since site (g.moment site) c → g.may_leave site c)
+      → IsReady g hub site → Since hub new at → ((s : State) → IsHubOf hub s → by s ≡ stays (at_moment at s) reply) → StepsBy g at by (Ok reply) hub site new site
+  replied by reply hub new site now ready since steps =
+      answered by (Ok reply) hub new site now ready (inr since) (λ e. cc)
+      (λ told s h on. subst (λ (t : Step). StepsTo t new (g.shown site) reply) (sym (steps s h)) (record {
+        replies = refl;
+        is_in = later-hub hub new at s since h;
+        on_site = record { stands = on.stands; journal = on.journal; log = on.log };
+      }))
 
   -- a call that made none and was in want of memory
   pub starved : (by : State → Step) (result : Result Reply HubError) (hub new : Hub) (site : S) → ((c : Image) → g.told → g.left_since site (g.moment site) c → g.may_leave site c)
@@ -124,25 +151,22 @@ module _ {S : Type 0} (g : Ghosts S) (at : ℕ) where
           let d = first.any_moment.each left.was (counts left.was left.there) in
           record { was = d.was; there = d.there; others = stays-joined d.was left.was c d.others left.others; state = left.state; is = later left.state left.is; stands = left.stands }
 
-  -- a call behind which another goes on from the later moment
-  pub behind : (by : State → Step) (result : Result Reply HubError) (hub mid : Hub) (site : S) (new : Hub) (after : S) → Later hub mid at → StepsBy g 0 by result mid site new after → StepsBy g at (λ s. by (at_moment at s)) result hub site new after
-  behind by result hub mid site new after later call = record {
+  -- a call that takes no memory behind the hub's own change, which a function of states tells
+  pub behind : (by : State → Step) (own : State → State) (result : Result Reply HubError) (hub mid : Hub) (site : S) (new : Hub) (after : S) → Later hub mid at → ((s : State) → IsHubOf hub s → IsHubOf mid (own s) × KeepsSite s (own s))
+      → ¬ IsErrOf result NoMemory → StepsBy g 0 by result mid site new after → StepsBy g at (λ s. by (own s)) result hub site new after
+  behind by own result hub mid site new after later is_own fed call = record {
     told = λ told s h on.
-        let t : State = at_moment at s in
         let images = g.may_leave site in
-        let step = call.told told t (later-hub hub mid at s later h) (record { stands = on.stands; journal = on.journal; log = on.log }) in
+        let is = is_own s h in
+        let keeps = is.1 in
+        let step = call.told told (own s) is.0 (kept-site (g.shown site) s (own s) keeps on) in
         record {
           answer = step.answer;
-          starved = λ e.
-              let still = step.starved e in
-              record {
-                is_in = inr (⊎_elim (λ h. h) (λ h. subst (IsHubOf new) (at-no-moment t) h) still.is_in);
-                same = still.same;
-                any_moment = weaker g.moment g.left_since site after _ _ (one-of images (λ x. x ≡ t) (λ x. x ≡ s) (λ x e. (s, refl, ap (λ (x : State). x.history.facts) (sym e)))) still.any_moment;
-              };
+          starved = λ e. absurd (fed e);
           others = step.others;
           any_moment = weaker g.moment g.left_since site after _ _
-              (one-of images (IsBetween t (by t)) (IsBetween s (by t)) (λ x is. ⊎_elim (λ e. (s, inl refl, ap (λ (x : State). x.history.facts) (sym e))) (λ more. (x, inr more, refl)) is)) step.any_moment;
+              (one-of images (IsBetween (own s) (by (own s))) (IsBetween s (by (own s)))
+              (λ x is. ⊎_elim (λ e. (s, inl refl, sym (ap (λ (h : History). h.facts) keeps.history) ∙ ap (λ (x : State). x.history.facts) (sym e))) (λ more. (x, inr more, refl)) is)) step.any_moment;
         };
     moment = λ e. omega (arith, call.moment e, later.last);
     leaves = record {
@@ -153,3 +177,13 @@ module _ {S : Type 0} (g : Ghosts S) (at : ℕ) where
       cause = call.leaves.cause;
     };
   }
+
+  -- the hub after its own change is ready for a call
+  pub own-ready : (own : State → State) (hub mid : Hub) (site : S) → Later hub mid at → ((s : State) → IsHubOf hub s → IsHubOf mid (own s) × KeepsSite s (own s)) → IsReady g hub site → IsReady g mid site
+  own-ready own hub mid site later is_own ready = later-ready g hub mid at site later on ready
+    where
+      on : g.told → IsHubOn (g.shown site) mid
+      on told =
+          let was = (ready.stands.sound ready.no_fault).state told in
+          let is = is_own was.state was.is_in in
+          record { state = own was.state; is_in = is.0; on_site = kept-site (g.shown site) was.state (own was.state) is.1 was.on_site }

@@ -1,10 +1,11 @@
-pub mod Sizes
 pub mod Added
+pub mod InMemory
 pub mod Later
 pub mod Logs
+pub mod Asked
 pub mod Rooms
+pub mod Sent
 pub mod Calling
-pub mod Queued
 pub mod OpeningFacts
 pub mod OpeningTaken
 pub mod OpeningRead

@@ -19,9 +19,10 @@ use Rattle.qc_machine.specs.declared.error.OpenError.TheVariants.{SiteFault, Not
 use Rattle.qc_machine.specs.declared.limits.Limits.{Limits}
 use Rattle.qc_machine.specs.History.{by_text, history_of, is_legal, no_facts}
 use Rattle.qc_machine.specs.Opening.{DamagedJournal}
-use Rattle.qc_machine.specs.Sites.{HasHeaders, StandsFor, ReadsAs, IsSiteOf, SameSite, LeavesSame, as_read, file_end}
+use Rattle.qc_machine.specs.Sites.{HasHeaders, StandsFor, ReadsAs, IsSiteOf, SameSite, LeavesSame, as_read, no_clients, file_end}
 use Rattle.qc_machine.specs.State.{State}
 use Rattle.qc_machine.proofs.Histories.{facts-of, legal-is}
+use Rattle.qc_machine.proofs.Recorders.{none-recorded}
 use Rattle.qc_machine.proofs.Images.{same-journal, same-crm_log, same-joined, stands-same}
 use Rattle.qc_hub.specs.declared.hub.Hub.{Hub}
 use Rattle.qc_hub.specs.Stands.{IsHubOf, AreNumbered}
@@ -34,7 +35,7 @@ use Rattle.qc_hub.proofs.OpeningTaken.{none-of}
 
 -- what was read of a site, whose image it was, as the journal's end was closed and then the other log's
 
-module _ (limits : Limits) (shown mid now : Image) (headers : HasHeaders shown) (hub new : Hub) (limited : hub.limits ≡ limits) (r : HasRead shown mid hub) (some : hub.facts ≢ 0) (l : HasReadLog mid now new) (kept : new ≡ record hub { log = new.log }) where
+module _ (limits : Limits) (shown mid now : Image) (headers : HasHeaders shown) (hub new : Hub) (limited : hub.limits ≡ limits) (idle : hub.clients ≡ no_clients) (r : HasRead shown mid hub) (some : hub.facts ≢ 0) (l : HasReadLog mid now new) (kept : new ≡ record hub { log = new.log }) where
   abbrev pub read_state : State
   read_state = as_read limits (history_of by_text r.facts) (file_end shown.journal) (file_end shown.crm_log)
 
@@ -68,11 +69,13 @@ module _ (limits : Limits) (shown mid now : Image) (headers : HasHeaders shown) 
     messages = r.has.messages;
     counted = r.has.counted ∙ ap length (sym all_facts);
     last = r.has.last;
+    clients = idle;
     limits = limited;
     journal = r.ended.end;
     log = ap file_end (sym same_crm_log) ∙ l.ended.end;
     settled = ap (history_of by_text) (sym all_facts);
     not_ahead = omega arith;
+    recorded = none-recorded (history_of by_text r.facts).catalogue;
   })
 
   pub site-of : IsSiteOf now read_state
@@ -230,10 +233,10 @@ module _ {S : Type 0} (g : Ghosts S) (limits : Limits) where
               let between = g.shown b in
               let now = g.shown c in
               record {
-                state = opened-as limits shown between now (o.headers told) mid new limited h some l n.kept;
-                reads = (read_state limits shown between now (o.headers told) mid new limited h some l n.kept, reads-as limits shown between now (o.headers told) mid new limited h some l n.kept);
-                closed = closed limits shown between now (o.headers told) mid new limited h some l n.kept;
-                others = same limits shown between now (o.headers told) mid new limited h some l n.kept;
+                state = opened-as limits shown between now (o.headers told) mid new limited idle h some l n.kept;
+                reads = (read_state limits shown between now (o.headers told) mid new limited idle h some l n.kept, reads-as limits shown between now (o.headers told) mid new limited idle h some l n.kept);
+                closed = closed limits shown between now (o.headers told) mid new limited idle h some l n.kept;
+                others = same limits shown between now (o.headers told) mid new limited idle h some l n.kept;
                 not_made = λ is. absurd cc;
                 no_catalogue = λ is. absurd cc;
                 damaged = λ d is. absurd cc;
@@ -248,6 +251,9 @@ module _ {S : Type 0} (g : Ghosts S) (limits : Limits) where
           where
             limited : mid.limits ≡ limits
             limited = ap (λ (h : Hub). h.limits) r.kept ∙ o.unread.limited
+
+            idle : mid.clients ≡ no_clients
+            idle = ap (λ (h : Hub). h.clients) r.kept ∙ o.unread.clients
 
             no_fault : new.in_fault ≡ false
             no_fault = ap (λ (h : Hub). h.in_fault) n.kept ∙ ap (λ (h : Hub). h.in_fault) r.kept ∙ o.unread.in_fault
@@ -275,8 +281,8 @@ module _ {S : Type 0} (g : Ghosts S) (limits : Limits) where
                   let h = read told in
                   let l = n.read told in
                   record {
-                    state = read_state limits (g.shown site) (g.shown b) (g.shown c) (o.headers told) mid new limited h some l n.kept;
-                    is_in = hub-of limits (g.shown site) (g.shown b) (g.shown c) (o.headers told) mid new limited h some l n.kept;
-                    on_site = site-of limits (g.shown site) (g.shown b) (g.shown c) (o.headers told) mid new limited h some l n.kept;
+                    state = read_state limits (g.shown site) (g.shown b) (g.shown c) (o.headers told) mid new limited idle h some l n.kept;
+                    is_in = hub-of limits (g.shown site) (g.shown b) (g.shown c) (o.headers told) mid new limited idle h some l n.kept;
+                    on_site = site-of limits (g.shown site) (g.shown b) (g.shown c) (o.headers told) mid new limited idle h some l n.kept;
                   };
             }

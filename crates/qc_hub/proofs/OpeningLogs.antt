@@ -14,7 +14,7 @@ use Rattle.qc_journal.specs.History.{journal_header}
 use Rattle.qc_journal.specs.Journal.{JournalView, log_of, journal_of, journal_opened}
 use Rattle.qc_machine.specs.declared.error.OpenError.TheVariants.{SiteFault as site_fault, NotMade as not_made, NoCatalogue as no_first, Damaged as damaged, NoMemory as no_memory}
 use Rattle.qc_machine.specs.declared.limits.Limits.{Limits}
-use Rattle.qc_machine.specs.Sites.{log_header}
+use Rattle.qc_machine.specs.Sites.{log_header, no_clients}
 use Rattle.qc_hub.specs.declared.hub.Hub.{Hub}
 use Rattle.qc_hub.specs.Opening.{in_journal, in_log, damage_at, HasFacts, FindsLogs}
 use Rattle.qc_hub.proofs.Logs.{stands-among}
@@ -101,12 +101,13 @@ module _ {S : Type 0} (g : Ghosts S) where
       }
 
       -- both were opened
-      pub logs-both : (log : LogView) (hub : Hub) → OpensLog g CrmLog log_header 16 (λ log. log) (Ok log) mid after → hub.journal ≡ journal → hub.log ≡ log → HasFacts [] hub → hub.limits ≡ limits → hub.in_fault ≡ false → FindsLogs g limits (Ok hub) site after
-      logs-both log hub opens is_journal is_log none limited no_fault = record {
+      pub logs-both : (log : LogView) (hub : Hub) → OpensLog g CrmLog log_header 16 (λ log. log) (Ok log) mid after → hub.journal ≡ journal → hub.log ≡ log → HasFacts [] hub → hub.clients ≡ no_clients → hub.limits ≡ limits → hub.in_fault ≡ false → FindsLogs g limits (Ok hub) site after
+      logs-both log hub opens is_journal is_log none idle limited no_fault = record {
         unread = record {
           journal = subst (λ (j : JournalView). j ≡ journal_opened j.length) (sym is_journal) (ap journal_of first.opened);
           log = subst (λ (l : LogView). l ≡ just_opened CrmLog 16 l.length) (sym is_log) opens.opened;
           none = none;
+          clients = idle;
           limited = limited;
           in_fault = no_fault;
         };

@@ -11,6 +11,7 @@ use Rattle.qc_catalogue.specs.declared.catalogue.Catalogue.{Catalogue}
 use Rattle.qc_catalogue.specs.declared.error.CatalogueError.{CatalogueError}
 use Rattle.qc_catalogue.specs.declared.error.CatalogueError.TheVariants.{TextTooLong, NotToml, BadField, UnknownName, PhaseMissing, NotQueueable, BadScript, NoMemory as OutOfMemory}
 use Rattle.qc_catalogue.specs.Catalogue.{catalogue_of}
+use Rattle.qc_recorder.specs.Fits.{recording_fits}
 use Rattle.qc_machine.specs.declared.error.OpenError.TheVariants.{Damaged as damaged, NoMemory as no_memory}
 use Rattle.qc_machine.specs.History.{History, by_text, no_facts, no_catalogue, names_exception, history_of, goes_on}
 use Rattle.qc_machine.proofs.Histories.{after-push, facts-of}
@@ -64,11 +65,27 @@ text-refused text none facts = and-false (eqb (length (history_of by_text facts)
 
 -- a message that is sent
 
+-- the tests of a message, in another order
+fitting : (a b c : Bool) → (a && b) ≡ true → c ≡ true → (a && (b && c)) ≡ true
+fitting true true c ab fits = fits
+fitting true false c ab fits = cc
+fitting false b c ab fits = cc
+
+pub not-next : (a b c : Bool) → (a && b) ≡ false → (a && (b && c)) ≡ false
+not-next true true c ab = cc
+not-next true false c ab = refl
+not-next false b c ab = refl
+
+pub not-fitting : (a b c : Bool) → c ≡ false → (a && (b && c)) ≡ false
+not-fitting true true c e = e
+not-fitting true false c e = refl
+not-fitting false b c e = refl
+
 module _ (hub : Hub) (facts : List Fact) (h : HasFacts facts hub) (id at : ℕ) (r : Recording) where
-  pub sent-goes : goes_on by_text (history_of by_text facts) (Sent id at r) ≡ ((leb 1 hub.facts && leb hub.last at) && eqb id (length hub.store.messages + 1))
+  pub sent-goes : goes_on by_text (history_of by_text facts) (Sent id at r) ≡ ((leb 1 hub.facts && leb hub.last at) && (eqb id (length hub.store.messages + 1) && recording_fits hub.catalogue r))
   sent-goes =
       let count : length (history_of by_text facts).facts ≡ hub.facts = ap length (facts-of by_text no_facts facts) ∙ sym h.counted in
-      λ i. (leb 1 (count i) && leb ((sym h.last) i) at) && eqb id (length ((sym h.messages) i) + 1)
+      λ i. (leb 1 (count i) && leb ((sym h.last) i) at) && (eqb id (length ((sym h.messages) i) + 1) && recording_fits ((sym h.catalogue) i) r)
 
   pub sent-has : (new : Hub) → new.catalogue ≡ hub.catalogue → new.store.messages ≡ after_sent id r (names_exception hub.catalogue r) at hub.store.messages → new.facts ≡ hub.facts + 1 → new.last ≡ at → HasFacts (facts ++ Sent id at r ∷ []) new
   sent-has new catalogue messages counted last =
@@ -106,16 +123,16 @@ takes-first at text c hub reads first numbered =
     let new : Hub = record hub { catalogue = c; facts = 1 } in
     record { taken = first-taken hub new text c (text-some text c reads) first refl refl refl refl; refused = tt; counted = omega (arith, first); numbered = numbered; kept = refl }
 
-pub takes-sent : (at id moment : ℕ) (r : Recording) (final_class : Bool) (hub new : Hub) → ((leb 1 hub.facts && leb hub.last moment) && eqb id (length hub.store.messages + 1)) ≡ true → final_class ≡ names_exception hub.catalogue r → new.store.messages ≡ after_sent id r final_class moment hub.store.messages
+pub takes-sent : (at id moment : ℕ) (r : Recording) (final_class : Bool) (hub new : Hub) → ((leb 1 hub.facts && leb hub.last moment) && eqb id (length hub.store.messages + 1)) ≡ true → recording_fits hub.catalogue r ≡ true → final_class ≡ names_exception hub.catalogue r → new.store.messages ≡ after_sent id r final_class moment hub.store.messages
     → AreNumbered hub.store.messages → new ≡ record hub { store = new.store; facts = hub.facts + 1; last = moment } → TakesFact at (Sent id moment r) (Ok tt) hub new
-takes-sent at id moment r final_class hub new goes class messages numbered is =
+takes-sent at id moment r final_class hub new goes fits class messages numbered is =
     let next : id ≡ length hub.store.messages + 1 = eqb-true id (length hub.store.messages + 1) (and_parts (leb 1 hub.facts && leb hub.last moment) (eqb id (length hub.store.messages + 1)) goes).1 in
     let counted : new.facts ≡ hub.facts + 1 = ap (λ (h : Hub). h.facts) is in
     let last : new.last ≡ moment = ap (λ (h : Hub). h.last) is in
     let catalogue : new.catalogue ≡ hub.catalogue = ap (λ (h : Hub). h.catalogue) is in
     record {
       taken = λ facts h. (
-        sent-goes hub facts h id moment r ∙ goes,
+        sent-goes hub facts h id moment r ∙ fitting (leb 1 hub.facts && leb hub.last moment) _ _ goes fits,
         sent-has hub facts h id moment r new catalogue (messages ∙ ap (λ (b : Bool). after_sent id r b moment hub.store.messages) class) counted last,
       );
       refused = tt;

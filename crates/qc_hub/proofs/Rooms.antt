@@ -1,36 +1,58 @@
--- A send as a step.
-use Rattle.std.proofs.Common.{◌≡◌, ℕ, ◌+◌, leb, max, length, Bool, true, not, refl, ap, sym, ◌∙◌, Option, Some, None}
+-- Room for a message, by what the state says.
+use Rattle.std.proofs.Common.{◌≡◌, ◌∙◌, ℕ, ◌+◌, ◌≤◌, leb, max, List, ◌∷◌, ◌++◌, length, Bool, true, false, not, refl, ap, sym, arith, length-append, Option, Some, None}
 use Rattle.qc_base.specs.declared.fact.Fact.{Fact}
 use Rattle.qc_base.specs.declared.fact.Fact.TheVariants.{Sent as FactSent}
+use Rattle.qc_base.specs.declared.message.Message.{Message}
 use Rattle.qc_base.specs.declared.recording.Recording.{Recording}
-use Rattle.qc_base.specs.Spelling.{spelled_fact}
+use Rattle.qc_base.specs.Spelling.{spelled_fact, spelled_recording, two_bytes, eight_bytes}
 use Rattle.qc_protocol.specs.declared.reply.Refusal.{Refusal}
 use Rattle.qc_protocol.specs.declared.reply.Refusal.TheVariants.{Full}
-use Rattle.qc_protocol.specs.declared.reply.Reply.TheVariants.{Refused}
 use Rattle.qc_machine.specs.declared.limits.Limits.{Limits}
-use Rattle.qc_machine.specs.Refuse.{refuse_if}
-use Rattle.qc_machine.specs.Sending.{fact_sent, added, sent_or_full, send_step}
-use Rattle.qc_machine.specs.State.{State, FileEnd, has_room, fact_room, at_moment}
-use Rattle.qc_machine.specs.Steps.{Step, stays}
+use Rattle.qc_machine.specs.Refuse.{refuse_if, is_of_line}
+use Rattle.qc_machine.specs.Sending.{fact_sent, no_room_for}
+use Rattle.qc_machine.specs.State.{State, FileEnd}
 use Rattle.qc_hub.specs.declared.hub.Hub.{Hub}
+use Rattle.qc_hub.specs.Rooms.{SameBut, full_for}
 use Rattle.qc_hub.specs.Stands.{IsHubOf}
+use Rattle.qc_hub.proofs.Later.{Later}
 
--- where there is room, a fact is added
+-- the spelling of a message's fact
+pub sent-size : (id at : ℕ) (r : Recording) → length (spelled_fact (FactSent id at r)) ≡ 19 + length (spelled_recording r)
+unfolding eight_bytes two_bytes
+sent-size id at r = omega arith
 
-pub room-step : (s : State) (r : Recording) → has_room s s.journal (fact_room (fact_sent s r)) ≡ true → sent_or_full s r ≡ added (fact_sent s r) s
-room-step s r room = ap (λ (b : Bool). by_full (refuse_if (not b) (Full s.journal.size))) room
+-- what a hub finds full is full, and the other way round
+pub room-is : (hub : Hub) (t : State) (r : Recording) → t.journal ≡ record { gate = hub.journal.place; size = hub.journal.length } → hub.limits ≡ t.limits → no_room_for t (Some r) ≡ full_for (length (spelled_recording r)) hub
+room-is hub t r journal limits =
+    let a : t.journal.size ≡ hub.journal.length = ap (λ (e : FileEnd). e.size) journal in
+    let b = sent-size (length t.history.messages + 1) t.last r in
+    let l : t.limits.log_bytes ≡ hub.limits.log_bytes = ap (λ (x : Limits). x.log_bytes) (sym limits) in
+    λ i. refuse_if (not (leb (a i + (9 + b i)) (l i))) (Full (a i))
+
+pub full-order : (size : ℕ) (hub : Hub) (r : Refusal) → full_for size hub ≡ Some r → is_of_line r ≡ false
+full-order size hub r e = by (not (leb (hub.journal.length + (9 + (19 + size))) hub.limits.log_bytes)) e
   where
-    by_full : Option Refusal → Step
-    by_full (Some full) = stays s (Refused full)
-    by_full None = send_step s (Some r)
+    by : (b : Bool) → refuse_if b (Full hub.journal.length) ≡ Some r → is_of_line r ≡ false
+    by true e = let same : Full hub.journal.length ≡ r = cc in ap is_of_line (sym same)
+    by false e = cc
 
-pub same-fact : (hub : Hub) (s : State) (at n m : ℕ) (r : Recording) → IsHubOf hub s → n ≡ length hub.store.messages → m ≡ max at hub.last → FactSent (n + 1) m r ≡ fact_sent (at_moment at s) r
-same-fact hub s at n m r h count moment = λ i. FactSent ((count ∙ ap length h.messages) i + 1) ((moment ∙ ap (λ (k : ℕ). max at k) h.last) i) r
+-- the fact of the next message, as a hub makes it
+pub same-fact : (hub : Hub) (s : State) (n : ℕ) (r : Recording) → IsHubOf hub s → n ≡ length hub.store.messages → FactSent (n + 1) hub.last r ≡ fact_sent s r
+same-fact hub s n r h count = λ i. FactSent ((count ∙ ap length h.messages) i + 1) (h.last i) r
 
-pub room-there : (hub : Hub) (s : State) (at : ℕ) (r : Recording) (fact : Fact) (size long : ℕ) → IsHubOf hub s → fact ≡ fact_sent (at_moment at s) r → size ≡ length (spelled_fact fact) → long ≡ hub.journal.length → leb (long + (9 + size)) hub.limits.log_bytes ≡ true
-    → has_room (at_moment at s) s.journal (fact_room (fact_sent (at_moment at s) r)) ≡ true
-room-there hub s at r fact size long h same is_size is_long room =
-    let a : s.journal.size ≡ long = ap (λ (e : FileEnd). e.size) h.journal ∙ sym is_long in
-    let b : length (spelled_fact (fact_sent (at_moment at s) r)) ≡ size = sym (is_size ∙ ap (λ (f : Fact). length (spelled_fact f)) same) in
-    let l : s.limits.log_bytes ≡ hub.limits.log_bytes = ap (λ (x : Limits). x.log_bytes) (sym h.limits) in
-    (λ i. leb (a i + (9 + b i)) (l i)) ∙ room
+-- a hub with room for a message, at a later moment and with other recorders
+pub room-later : (hub mid : Hub) (at last : ℕ) (clients : List (Option Recording)) → last ≡ max at hub.last → SameBut (record hub { clients = clients; last = last }) mid → Later hub mid at × (mid.clients ≡ clients)
+room-later hub mid at last clients moment same = (
+  record {
+    catalogue = ap (λ (x : Hub). x.catalogue) same.others;
+    store = same.messages;
+    facts = ap (λ (x : Hub). x.facts) same.others;
+    spare = mid.journal.spare;
+    journal = same.journal;
+    log = ap (λ (x : Hub). x.log) same.others;
+    last = ap (λ (x : Hub). x.last) same.others ∙ moment;
+    limits = ap (λ (x : Hub). x.limits) same.others;
+    in_fault = ap (λ (x : Hub). x.in_fault) same.others;
+  },
+  ap (λ (x : Hub). x.clients) same.others,
+)

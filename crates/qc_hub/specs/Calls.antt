@@ -1,10 +1,13 @@
 -- What a call of the hub is given, and what it leaves of the hub and its site. `g` has the members of the site's trait.
-use Rattle.std.specs.Prelude.{◌≡◌, ◌⊎◌, ℕ, [], ◌∷◌, max, List, true, false, IfOk, IfErr, OnOk, IsErr, IsErrOf}
+use Rattle.std.specs.Prelude.{◌≡◌, ◌⊎◌, ℕ, [], ◌∷◌, max, List, true, false, IfOk, IfErr, OnOk, OnErr, IsErr, IsErrOf, Ok, Err}
 use Rattle.std.specs.declared.result.Result.{Result}
 use Rattle.qc_protocol.specs.declared.order.Order.{Order}
-use Rattle.qc_protocol.specs.declared.order.Act.TheVariants.{Send}
+use Rattle.qc_protocol.specs.declared.order.Act.TheVariants.{OpenSlot, CallSlot, CommitSlot, CancelSlot, Send, Queues}
 use Rattle.qc_protocol.specs.declared.order.RawCall.{RawCall}
 use Rattle.qc_protocol.specs.declared.reply.Reply.{Reply}
+use Rattle.qc_protocol.specs.declared.reply.Reply.TheVariants.{Refused as ReplyRefused}
+use Rattle.qc_recorder.specs.declared.error.RecordError.{RecordError}
+use Rattle.qc_recorder.specs.declared.error.RecordError.TheVariants.{Refused as RecordRefused, NoMemory as RecordMemory}
 use Rattle.qc_site.specs.declared.site.Site.{Ghosts}
 use Rattle.qc_site.specs.declared.site.SiteFile.{SiteFile}
 use Rattle.qc_site.specs.declared.site.SiteFile.TheVariants.{Journal, CrmLog, Snap}
@@ -29,9 +32,25 @@ use Rattle.qc_hub.specs.declared.error.HubError.TheVariants.{SiteFault, NoMemory
 use Rattle.qc_hub.specs.declared.hub.Hub.{Hub}
 use Rattle.qc_hub.specs.Stands.{IsHubOf, IsHubOn, AreNumbered, StepsTo}
 
--- the order of a send
+-- orders, by what a method is given
+
+abbrev pub opening : ℕ → ℕ → List ℕ → List ℕ → Order
+opening at client app component = record { at = at; act = OpenSlot client app component }
+
+abbrev pub calling : ℕ → ℕ → RawCall → Order
+calling at client call = record { at = at; act = CallSlot client call }
+
+abbrev pub committing : ℕ → ℕ → Order
+committing at client = record { at = at; act = CommitSlot client }
+
+abbrev pub cancelling : ℕ → ℕ → Order
+cancelling at client = record { at = at; act = CancelSlot client }
+
 abbrev pub sending : ℕ → List ℕ → List ℕ → List RawCall → Order
 sending at app component calls = record { at = at; act = Send app component calls }
+
+abbrev pub listing : ℕ → List ℕ → Order
+listing at app = record { at = at; act = Queues app }
 
 -- a log of compensations that was read to its end, which is its start
 pub record IsUnused (log : LogView) : Type 0 where
@@ -65,6 +84,30 @@ LeavesUnopened NotMade before now = now ≡ before
 LeavesUnopened NoCatalogue before now = now ≡ with_closed_journal before
 LeavesUnopened (Damaged d) before now = LeavesDamaged d.file before now
 LeavesUnopened open_memory before now = (now ≡ before) ⊎ ((now ≡ with_closed_journal before) ⊎ (now ≡ with_closed_logs before))
+
+-- what is answered where nothing is recorded
+abbrev pub unrecorded : RecordError → Result Reply HubError
+unrecorded (RecordRefused refusal) = Ok (ReplyRefused refusal)
+unrecorded RecordMemory = Err NoMemory
+
+-- nothing but the last moment and the clients' recorders is another
+pub record KeepsSite (s t : State) : Type 0 where
+  pub history : t.history ≡ s.history
+  pub journal : t.journal ≡ s.journal
+  pub log : t.log ≡ s.log
+
+-- what the step makes of a state
+pub record StepsAlone (s : State) (t : Step) (new : Hub) (reply : Reply) : Type 0 where
+  pub replies : reply ≡ t.reply
+  pub is_in : IsHubOf new t.state
+  pub keeps : KeepsSite s t.state
+
+-- A call takes this step without its site, whatever state the hub is in. In want of memory it changes nothing but the
+-- last moment seen.
+pub record StepsInMemory (at : ℕ) (by : State → Step) (result : Result Reply HubError) (hub new : Hub) : Type 0 where
+  pub told : (s : State) → IsHubOf hub s → IfOk result (StepsAlone s (by s) new)
+  pub starved : OnErr result ((result ≡ Err NoMemory) × ((new ≡ hub) ⊎ (new ≡ record hub { last = max at hub.last })))
+  pub kept : new ≡ record hub { clients = new.clients; last = new.last }
 
 module _ {S : Type 0} (g : Ghosts S) where
   -- The logs of the hub stand on its site at their ends, and where the site tells, the hub is in a state of the site.

@@ -20,7 +20,7 @@ use Rattle.qc_machine.specs.declared.error.OpenError.TheVariants.{SiteFault as s
 use Rattle.qc_machine.specs.declared.limits.Limits.{Limits}
 use Rattle.qc_machine.specs.History.{by_text, no_facts, history_of, goes_on, all_follow}
 use Rattle.qc_machine.specs.Opening.{DamagedJournal}
-use Rattle.qc_machine.specs.Sites.{HasHeaders, file_end}
+use Rattle.qc_machine.specs.Sites.{HasHeaders, file_end, no_clients}
 use Rattle.qc_hub.specs.declared.hub.Hub.{Hub}
 use Rattle.qc_hub.specs.Calls.{with_closed_gate, with_closed_journal}
 use Rattle.qc_hub.specs.Stands.{AreNumbered}
@@ -64,6 +64,7 @@ pub record IsUnread (limits : Limits) (hub : Hub) : Type 0 where
   pub journal : hub.journal ≡ journal_opened hub.journal.length
   pub log : hub.log ≡ just_opened CrmLog 16 hub.log.length
   pub none : HasFacts [] hub
+  pub clients : hub.clients ≡ no_clients
   pub limited : hub.limits ≡ limits
   pub in_fault : hub.in_fault ≡ false
 

@@ -17,7 +17,7 @@ impl Hub {
     // A fact for which there is room, of a message that is sent now.
     pub(crate) fn add_sent<S: Site>(&mut self, site: &mut S, fact: Fact) -> Result<Reply, HubError>
         requires ready { IsReady S.Site self.old site.old }
-        requires sent { IsNextSent self.old.store.messages self.old.last fact }
+        requires sent { IsNextSent S.Site.told self.old fact }
         requires limits { is_fact fact ≡ true }
         requires store_room { 1 ≤ self.old.store.room }
         requires journal_room { length (spelled_fact fact) + 4 ≤ self.old.journal.spare }

@@ -4,6 +4,7 @@ ghost use Rattle.qc_machine.specs.State.{State};
 ghost use Rattle.qc_hub.specs.Stands.{IsHubOf};
 ghost use Rattle.qc_hub.specs.Calls.{IsReady, CarriesOut};
 
+use crate::clients::Clients;
 use crate::error::HubError;
 use qc_base::Moment;
 use qc_catalogue::Catalogue;
@@ -15,14 +16,15 @@ use qc_site::Site;
 use qc_store::Store;
 use std::alloc::Global;
 
-/// The service over one site: its logs, the catalogue and the messages as the journal's facts settle them, and the last
-/// moment seen.
+/// The service over one site: its logs, the catalogue and the messages as the journal's facts settle them, what the
+/// clients' recorders hold, and the last moment seen.
 #[derive(Drop)]
 pub struct Hub {
     pub(crate) journal: Journal,
     pub(crate) log: Log,
     pub(crate) catalogue: Catalogue,
     pub(crate) store: Store,
+    pub(crate) clients: Clients,
     pub(crate) facts: u64,
     pub(crate) last: Moment,
     pub(crate) limits: Limits,
@@ -79,16 +81,23 @@ impl Hub {
         requires { IsReady S.Site self.old site.old }
         ensures { CarriesOut S.Site order.now result self.old site.old self.new site.new }
     {
+        let at = order.at;
         match &order.act {
+            Act::OpenSlot(client, app, component) => {
+                self.open_client(alloc, at, *client, app.as_slice(), component.as_slice())
+            }
+            Act::CallSlot(client, call) => self.call_client(alloc, at, *client, call),
+            Act::CommitSlot(client) => self.commit_client(alloc, site, at, *client),
+            Act::CancelSlot(client) => self.cancel_client(at, *client),
             Act::Send(app, component, calls) => self.send(
                 alloc,
                 site,
-                order.at,
+                at,
                 app.as_slice(),
                 component.as_slice(),
                 calls.as_slice(),
             ),
-            Act::Queues(app) => self.queues(alloc, order.at, app.as_slice()),
+            Act::Queues(app) => self.queues(alloc, at, app.as_slice()),
             _ => Ok(Reply::Refused(Refusal::NotBuilt)),
         }
     }

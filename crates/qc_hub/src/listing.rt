@@ -1,11 +1,10 @@
 // What the queues of an application show.
-ghost use Rattle.std.specs.Prelude.{◌≡◌, ◌⊎◌, true, false, max, IfOk, OnErr};
-ghost use Rattle.qc_base.specs.Names.{is_app_name};
-ghost use Rattle.qc_machine.specs.Listing.{queues_shown};
+ghost use Rattle.qc_machine.specs.Step.{step};
+ghost use Rattle.qc_hub.specs.Calls.{StepsInMemory, listing};
 
 use crate::error::HubError;
 use crate::hub::{Hub, later};
-use qc_base::{Moment, Name, is_app_name};
+use qc_base::Moment;
 use qc_protocol::{Refusal, Reply};
 use std::alloc::Global;
 
@@ -17,21 +16,18 @@ impl Hub {
         at: Moment,
         app: &[u8],
     ) -> Result<Reply, HubError>
-        ensures refused { is_app_name app.now ≡ false → IfOk result (λ reply. (reply ≡ Reply.Refused Refusal.NotBuilt) × (self.new ≡ self.old)) }
-        ensures listed { is_app_name app.now ≡ true → IfOk result (λ reply. (reply ≡ queues_shown self.old.store.messages app.now) × (self.new ≡ record self.old { last = max at self.old.last })) }
-        ensures no_memory { OnErr result ((result ≡ Err HubError.NoMemory) × (self.new ≡ self.old)) }
-        ensures kept { (self.new ≡ self.old) ⊎ (self.new ≡ record self.old { last = max at self.old.last }) }
+        ensures { StepsInMemory at (λ s. step s (listing at app.now)) result self.old self.new }
     {
-        if !is_app_name(app) {
-            return Ok(Reply::Refused(Refusal::NotBuilt));
-        }
-        let Some(name) = Name::read(app) else {
-            return Ok(Reply::Refused(Refusal::NotBuilt));
+        let last = later(at, self.last);
+        let Some(app) = self.catalogue.app(app) else {
+            self.last = last;
+            return Ok(Reply::Refused(Refusal::UnknownApp));
         };
-        let Ok(list) = self.store.list(alloc, app) else {
+        let name = app.name.copy();
+        let Ok(list) = self.store.list(alloc, name.as_bytes()) else {
             return Err(HubError::NoMemory);
         };
-        self.last = later(at, self.last);
+        self.last = last;
         Ok(Reply::Queues(name, list.queues, list.dead, list.consumed))
     }
 }

@@ -10,12 +10,14 @@ ghost use Rattle.qc_hub.specs.Opening.{IsUnread, FindsLogs, TakesFact, ReadsFact
 ghost use Rattle.qc_hub.specs.Stands.{AreNumbered};
 
 use crate::classes::names_exception;
+use crate::clients::Clients;
 use crate::hub::Hub;
 use qc_base::{Fact, Moment, Recording};
 use qc_catalogue::{Catalogue, CatalogueError, Entries};
 use qc_frame::{Damage, Log, LogError};
 use qc_journal::Journal;
 use qc_machine::{Limits, OpenError};
+use qc_recorder::fits;
 use qc_site::{Site, SiteFile};
 use qc_store::Store;
 use std::alloc::Global;
@@ -110,6 +112,9 @@ impl Hub {
         let Ok(store) = Store::make(alloc) else {
             return Err(OpenError::NoMemory);
         };
+        let Ok(clients) = Clients::make(alloc) else {
+            return Err(OpenError::NoMemory);
+        };
         let journal = match Journal::open(alloc, site) {
             Ok(journal) => journal,
             Err(error) => return Err(journal_error(error)),
@@ -123,6 +128,7 @@ impl Hub {
             log,
             catalogue: empty_catalogue(alloc),
             store,
+            clients,
             facts: 0,
             last: Moment::clamp(0),
             limits,
@@ -208,6 +214,9 @@ impl Hub {
         ensures { TakesFact at (Fact.Sent id moment recording) result self.old self.new }
     {
         if !self.is_next(id, moment) {
+            return Err(damaged(at));
+        }
+        if !fits(&self.catalogue, &recording) {
             return Err(damaged(at));
         }
         let Ok(()) = self.store.reserve(alloc) else {

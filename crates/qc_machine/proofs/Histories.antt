@@ -1,5 +1,5 @@
 -- A history with one fact more.
-use Rattle.std.proofs.Common.{◌≡◌, ℕ, ◌+◌, ◌≤◌, leb, eqb, List, [], ◌∷◌, ◌++◌, length, Bool, true, false, ◌&&◌, refl, ap, sym, ◌∙◌, eq-eqb, arith, length-append, append-nil, append_assoc}
+use Rattle.std.proofs.Common.{◌≡◌, ℕ, ◌+◌, ◌≤◌, leb, eqb, List, [], ◌∷◌, ◌++◌, length, Bool, true, false, ◌&&◌, refl, ap, sym, ◌∙◌, eq-eqb, arith, length-append, append-nil, append_assoc, Option, Some, None, unwrap_or}
 use Rattle.std.specs.List.{list_all}
 use Rattle.std.proofs.lemmas.Bool.{le-leb, leb-true}
 use Rattle.std.proofs.lemmas.List.Folds.{list_all-append}
@@ -7,7 +7,11 @@ use Rattle.qc_base.specs.declared.fact.Fact.{Fact}
 use Rattle.qc_base.specs.declared.fact.Fact.TheVariants.{Catalogue, Sent, Played, Failed, Moved, Switched}
 use Rattle.qc_base.specs.declared.recording.Recording.{Recording}
 use Rattle.qc_base.specs.Spelling.{is_fact}
-use Rattle.qc_machine.specs.History.{Reader, History, no_facts, with_fact, after_fact, after_facts, history_of, may_follow, is_later, all_follow, is_legal}
+use Rattle.qc_catalogue.specs.declared.catalogue.Catalogue.{Catalogue as Catalogued}
+use Rattle.qc_catalogue.specs.Orderly.{is_orderly}
+use Rattle.qc_recorder.specs.Fits.{recording_fits}
+use Rattle.qc_machine.specs.Laws.{ReadsOrderly}
+use Rattle.qc_machine.specs.History.{Reader, History, no_facts, no_catalogue, with_fact, after_fact, after_facts, history_of, may_follow, is_later, all_follow, is_legal}
 use Rattle.qc_machine.proofs.Bools.{and_assoc, and-both, and-left, and-right, and-true}
 
 pub after-push : (read : Reader) (h : History) (facts : List Fact) (fact : Fact) → after_facts read h (facts ++ fact ∷ []) ≡ after_fact read (after_facts read h facts) fact
@@ -46,10 +50,32 @@ facts-of read h (fact ∷ facts) = facts-of read (after_fact read h fact) facts 
     one (Switched app on at) = refl
 
 -- a message sent next, at a moment that doesn't fall
-pub send-follows : (read : Reader) (h : History) (id at : ℕ) (r : Recording) → 1 ≤ length h.facts → id ≡ length h.messages + 1 → h.last ≤ at → is_fact (Sent id at r) ≡ true → may_follow read h (Sent id at r) ≡ true
-send-follows read h id at r some next later fits =
+pub send-follows : (read : Reader) (h : History) (id at : ℕ) (r : Recording) → 1 ≤ length h.facts → id ≡ length h.messages + 1 → h.last ≤ at → is_fact (Sent id at r) ≡ true → recording_fits h.catalogue r ≡ true → may_follow read h (Sent id at r) ≡ true
+send-follows read h id at r some next later fits there =
     and-both (is_fact (Sent id at r)) _ fits
-    (and-both (is_later at h) _ (and-both (leb 1 (length h.facts)) _ (le-leb 1 (length h.facts) some) (le-leb h.last at later)) (eq-eqb id (length h.messages + 1) next))
+    (and-both (is_later at h) _ (and-both (leb 1 (length h.facts)) _ (le-leb 1 (length h.facts) some) (le-leb h.last at later))
+    (and-both (eqb id (length h.messages + 1)) _ (eq-eqb id (length h.messages + 1) next) there))
+
+-- each catalogue that comes into force is orderly
+
+pub orderly-after : (read : Reader) → ReadsOrderly read → (h : History) (fact : Fact) → is_orderly h.catalogue ≡ true → is_orderly (after_fact read h fact).catalogue ≡ true
+orderly-after read reads h (Catalogue text) was = by_read (read text) refl
+  where
+    by_read : (o : Option Catalogued) → read text ≡ o → is_orderly (unwrap_or o no_catalogue) ≡ true
+    by_read None e = refl
+    by_read (Some c) e = reads text c e
+orderly-after read reads h (Sent id at r) was = was
+orderly-after read reads h (Played id attempt kind at) was = was
+orderly-after read reads h (Failed id attempt at) was = was
+orderly-after read reads h (Moved app queue at ids) was = was
+orderly-after read reads h (Switched app on at) was = was
+
+pub orderly-facts : (read : Reader) → ReadsOrderly read → (h : History) (facts : List Fact) → is_orderly h.catalogue ≡ true → is_orderly (after_facts read h facts).catalogue ≡ true
+orderly-facts read reads h [] was = was
+orderly-facts read reads h (fact ∷ facts) was = orderly-facts read reads (after_fact read h fact) facts (orderly-after read reads h fact was)
+
+pub orderly-history : (read : Reader) (facts : List Fact) → ReadsOrderly read → is_orderly (history_of read facts).catalogue ≡ true
+orderly-history read facts reads = orderly-facts read reads no_facts facts refl
 
 pub limits-push : (facts : List Fact) (fact : Fact) → list_all is_fact facts ≡ true → is_fact fact ≡ true → list_all is_fact (facts ++ fact ∷ []) ≡ true
 limits-push facts fact all one = list_all-append is_fact facts (fact ∷ []) ∙ and-both (list_all is_fact facts) _ all (and-both (is_fact fact) true one refl)

@@ -1,5 +1,6 @@
 -- What holds of every step, by the order.
-use Rattle.std.proofs.Common.{◌≡◌, ◌≤◌, ℕ, List, [], ◌∷◌, ◌++◌, Bool, true, false, cond, refl, sym, ap, subst, ◌⊎◌, ⊎_elim, arith, append-nil, Option, Some, None}
+use Rattle.std.proofs.Common.{◌≡◌, ◌≤◌, ℕ, List, [], ◌∷◌, ◌++◌, Bool, true, false, cond, refl, sym, ap, subst, ◌⊎◌, ⊎_elim, arith, append-nil, Option, Some, None, Ok, Err}
+use Rattle.std.specs.declared.result.Result.{Result}
 use Rattle.qc_base.specs.declared.fact.Fact.{Fact}
 use Rattle.qc_protocol.specs.declared.order.Act.{Act}
 use Rattle.qc_protocol.specs.declared.order.Act.TheVariants.{OpenSlot, CallSlot, CommitSlot, CancelSlot, Send, Take, Work, End, Phase, Play, Move, Switch, Queues, Table, Outside}
@@ -8,10 +9,12 @@ use Rattle.qc_base.specs.declared.recording.Recording.{Recording}
 use Rattle.qc_protocol.specs.declared.reply.Refusal.{Refusal}
 use Rattle.qc_protocol.specs.declared.reply.Reply.TheVariants.{Refused}
 use Rattle.qc_machine.specs.Laws.{GoesOn}
-use Rattle.qc_machine.specs.Recorded.{recording_of}
+use Rattle.qc_recorder.specs.Recording.{begun}
+use Rattle.qc_machine.specs.Recorded.{called_by, recording_sent}
+use Rattle.qc_machine.specs.Recording.{open_step, call_step, cancel_step}
 use Rattle.qc_machine.specs.Refuse.{is_of_line}
 use Rattle.qc_machine.specs.Sending.{fact_sent, send_step}
-use Rattle.qc_machine.specs.State.{State, at_moment}
+use Rattle.qc_machine.specs.State.{State, at_moment, in_slot, with_client}
 use Rattle.qc_machine.specs.Step.{step, step_of, answer, refusal}
 use Rattle.qc_machine.specs.Steps.{Step, Among, IsBetween}
 
@@ -28,13 +31,32 @@ sends : (s : State) (o : Option Recording) → Later s (send_step s o).state
 sends s None = stays s
 sends s (Some r) = record { last = omega arith; more = fact_sent s r ∷ []; facts = refl }
 
+with-slot : (s : State) (n : ℕ) (o : Option Recording) → Later s (with_client n o s)
+with-slot s n o = record { last = omega arith; more = []; facts = sym (append-nil s.history.facts) }
+
+opens : (s : State) (n : ℕ) (answer : Result Recording Refusal) → Later s (open_step s n answer).state
+opens s n (Ok r) = with-slot s n (Some r)
+opens s n (Err refusal) = stays s
+
+calls-on : (s : State) (n : ℕ) (o : Option (Result Recording Refusal)) → Later s (call_step s n o).state
+calls-on s n None = stays s
+calls-on s n (Some (Ok r)) = with-slot s n (Some r)
+calls-on s n (Some (Err refusal)) = stays s
+
+cancels : (s : State) (n : ℕ) (o : Option Recording) → Later s (cancel_step s n o).state
+cancels s n None = stays s
+cancels s n (Some r) = with-slot s n None
+
+commits : (s : State) (n : ℕ) (o : Option Recording) → Later s (send_step (with_client n None s) o).state
+commits s n o = let on = sends (with_client n None s) o in record { last = omega (arith, on.last); more = on.more; facts = on.facts }
+
 carried-out : (s : State) (act : Act) → Later s (step_of s act).state
-carried-out s (Send app component calls) = sends s (recording_of app component calls)
+carried-out s (Send app component calls) = sends s (recording_sent s (Send app component calls))
 carried-out s (Queues app) = stays s
-carried-out s (OpenSlot n app component) = stays s
-carried-out s (CallSlot n call) = stays s
-carried-out s (CommitSlot n) = stays s
-carried-out s (CancelSlot n) = stays s
+carried-out s (OpenSlot n app component) = opens s n (begun s.history.catalogue app component)
+carried-out s (CallSlot n call) = calls-on s n (called_by s n call)
+carried-out s (CommitSlot n) = commits s n (recording_sent s (CommitSlot n))
+carried-out s (CancelSlot n) = cancels s n (in_slot n s.clients)
 carried-out s (Take n app) = stays s
 carried-out s (Work n) = stays s
 carried-out s (End n) = stays s
@@ -49,13 +71,26 @@ send-replies : (s : State) (o : Option Recording) (r : Refusal) → (send_step s
 send-replies s None r e = cc
 send-replies s (Some recording) r e = cc
 
+open-replies : (s : State) (n : ℕ) (answer : Result Recording Refusal) (r : Refusal) → (open_step s n answer).reply ≡ Refused r → ⊥
+open-replies s n (Ok recording) r e = cc
+open-replies s n (Err refusal) r e = cc
+
+call-replies : (s : State) (n : ℕ) (o : Option (Result Recording Refusal)) (r : Refusal) → (call_step s n o).reply ≡ Refused r → ⊥
+call-replies s n None r e = cc
+call-replies s n (Some (Ok more)) r e = cc
+call-replies s n (Some (Err refusal)) r e = cc
+
+cancel-replies : (s : State) (n : ℕ) (o : Option Recording) (r : Refusal) → (cancel_step s n o).reply ≡ Refused r → ⊥
+cancel-replies s n None r e = cc
+cancel-replies s n (Some recording) r e = cc
+
 no-refusal : (s : State) (act : Act) (r : Refusal) → (step_of s act).reply ≡ Refused r → ⊥
-no-refusal s (Send app component calls) r e = send-replies s (recording_of app component calls) r e
+no-refusal s (Send app component calls) r e = send-replies s (recording_sent s (Send app component calls)) r e
 no-refusal s (Queues app) r e = cc
-no-refusal s (OpenSlot n app component) r e = cc
-no-refusal s (CallSlot n call) r e = cc
-no-refusal s (CommitSlot n) r e = cc
-no-refusal s (CancelSlot n) r e = cc
+no-refusal s (OpenSlot n app component) r e = open-replies s n (begun s.history.catalogue app component) r e
+no-refusal s (CallSlot n call) r e = call-replies s n (called_by s n call) r e
+no-refusal s (CommitSlot n) r e = send-replies (with_client n None s) (recording_sent s (CommitSlot n)) r e
+no-refusal s (CancelSlot n) r e = cancel-replies s n (in_slot n s.clients) r e
 no-refusal s (Take n app) r e = cc
 no-refusal s (Work n) r e = cc
 no-refusal s (End n) r e = cc
@@ -108,13 +143,26 @@ sent-none : (s : State) (o : Option Recording) → (send_step s o).through ≡ [
 sent-none s None = refl
 sent-none s (Some r) = refl
 
+opened-none : (s : State) (n : ℕ) (answer : Result Recording Refusal) → (open_step s n answer).through ≡ []
+opened-none s n (Ok r) = refl
+opened-none s n (Err refusal) = refl
+
+called-none : (s : State) (n : ℕ) (o : Option (Result Recording Refusal)) → (call_step s n o).through ≡ []
+called-none s n None = refl
+called-none s n (Some (Ok r)) = refl
+called-none s n (Some (Err refusal)) = refl
+
+cancelled-none : (s : State) (n : ℕ) (o : Option Recording) → (cancel_step s n o).through ≡ []
+cancelled-none s n None = refl
+cancelled-none s n (Some r) = refl
+
 through-none : (s : State) (act : Act) → (step_of s act).through ≡ []
-through-none s (Send app component calls) = sent-none s (recording_of app component calls)
+through-none s (Send app component calls) = sent-none s (recording_sent s (Send app component calls))
 through-none s (Queues app) = refl
-through-none s (OpenSlot n app component) = refl
-through-none s (CallSlot n call) = refl
-through-none s (CommitSlot n) = refl
-through-none s (CancelSlot n) = refl
+through-none s (OpenSlot n app component) = opened-none s n (begun s.history.catalogue app component)
+through-none s (CallSlot n call) = called-none s n (called_by s n call)
+through-none s (CommitSlot n) = sent-none (with_client n None s) (recording_sent s (CommitSlot n))
+through-none s (CancelSlot n) = cancelled-none s n (in_slot n s.clients)
 through-none s (Take n app) = refl
 through-none s (Work n) = refl
 through-none s (End n) = refl

@@ -12,6 +12,7 @@ use Rattle.qc_catalogue.specs.declared.catalogue.Component.{Component}
 use Rattle.qc_catalogue.specs.declared.error.CatalogueError.{CatalogueError}
 use Rattle.qc_catalogue.specs.Catalogue.{catalogue_of}
 use Rattle.qc_catalogue.specs.Lookup.{app_named, component_named}
+use Rattle.qc_recorder.specs.Fits.{recording_fits}
 
 -- how a catalogue's text is read
 abbrev pub Reader : Type 0
@@ -80,10 +81,11 @@ history_of read facts = after_facts read no_facts facts
 abbrev pub is_later : ℕ → History → Bool
 is_later at h = nat_le 1 (length h.facts) && nat_le h.last at
 
--- a history begins with a catalogue; a message is sent with the next id, from 1; no other fact follows yet
+-- a history begins with a catalogue; a message is sent with the next id, from 1, and fits the catalogue in force; no other
+-- fact follows yet
 abbrev pub goes_on : Reader → History → Fact → Bool
 goes_on read h (InForce text) = (length h.facts == 0) && is_some (read text)
-goes_on read h (Sent id at r) = is_later at h && (id == length h.messages + 1)
+goes_on read h (Sent id at r) = is_later at h && (id == length h.messages + 1 && recording_fits h.catalogue r)
 goes_on read h (Played id attempt kind at) = false
 goes_on read h (Failed id attempt at) = false
 goes_on read h (Moved app queue at ids) = false

@@ -2,10 +2,13 @@ pub mod History
 pub mod Laws
 pub mod Listing
 pub mod Opening
+pub mod Names
 pub mod Recorded
+pub mod Recording
 pub mod Refuse
 pub mod Sending
 pub mod Sites
+pub mod Slots
 pub mod State
 pub mod Step
 pub mod Steps

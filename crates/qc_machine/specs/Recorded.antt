@@ -1,42 +1,41 @@
--- What is recorded of the calls that an order asks for.
-use Rattle.std.specs.Prelude.{ℕ, nat_le, List, length, map, Bool, false, ◌&&◌, Option, Some, None, if◌then◌else◌}
-use Rattle.std.specs.List.{list_all}
-use Rattle.qc_base.specs.Names.{is_name, is_app_name, is_text}
-use Rattle.qc_base.specs.Spelling.{is_amount, is_between, spelled_recording}
-use Rattle.qc_protocol.specs.declared.order.RawArg.{RawArg}
-use Rattle.qc_protocol.specs.declared.order.RawArg.TheVariants.{Text, Whole, Other}
-use Rattle.qc_protocol.specs.declared.order.RawCall.{RawCall}
-use Rattle.qc_base.specs.declared.recording.Arg.{Arg}
-use Rattle.qc_base.specs.declared.recording.Arg.TheVariants.{Text as ArgText, Whole as ArgWhole}
-use Rattle.qc_base.specs.declared.recording.Call.{Call}
+-- What is recorded of the calls that an order asks for, and why it isn't.
+use Rattle.std.specs.Prelude.{ℕ, List, [], ◌∷◌, Option, Some, None, option_map, option_and_then, Result, Ok, Err}
 use Rattle.qc_base.specs.declared.recording.Recording.{Recording}
+use Rattle.qc_protocol.specs.declared.order.Act.{Act}
+use Rattle.qc_protocol.specs.declared.order.Act.TheVariants.{OpenSlot, CallSlot, CommitSlot, Send}
+use Rattle.qc_protocol.specs.declared.order.RawCall.{RawCall}
+use Rattle.qc_protocol.specs.declared.reply.Refusal.{Refusal}
+use Rattle.qc_recorder.specs.Recording.{begun, called, recorded}
+use Rattle.qc_machine.specs.State.{State, in_slot}
 
--- an argument is a text or an amount
-abbrev pub arg_fits : RawArg → Bool
-arg_fits (Text word) = is_text word
-arg_fits (Whole n) = is_amount n
-arg_fits Other = false
+-- what a client's recorder holds with one call more
+abbrev pub called_by : State → ℕ → RawCall → Option (Result Recording Refusal)
+called_by s n call = option_map (λ (r : Recording). called s.history.catalogue r call) (in_slot n s.clients)
 
-abbrev pub arg_recorded : RawArg → Arg
-arg_recorded (Text word) = ArgText word
-arg_recorded (Whole n) = ArgWhole n
-arg_recorded Other = ArgWhole 0
+-- the recording that an order begins or goes on with, or its first refusal by number
+abbrev pub recording_asked : State → Act → Option (Result Recording Refusal)
+recording_asked s (OpenSlot n app component) = Some (begun s.history.catalogue app component)
+recording_asked s (CallSlot n call) = called_by s n call
+recording_asked s (Send app component calls) = Some (recorded s.history.catalogue app component calls)
+recording_asked s _ = None
 
--- a call of a name with at most 16 arguments
-abbrev pub call_fits : RawCall → Bool
-call_fits call = is_name call.method && (nat_le (length call.args) 16 && list_all arg_fits call.args)
+abbrev pub if_refused : Result Recording Refusal → Option Refusal
+if_refused (Ok r) = None
+if_refused (Err refusal) = Some refusal
 
-abbrev pub call_recorded : RawCall → Call
-call_recorded call = record { method = call.method; args = map arg_recorded call.args }
+abbrev pub not_recorded : State → Act → Option Refusal
+not_recorded s act = option_and_then if_refused (recording_asked s act)
 
-abbrev pub as_recorded : List ℕ → List ℕ → List RawCall → Recording
-as_recorded app component calls = record { app = app; component = component; calls = map call_recorded calls }
+-- a recording that has calls
+abbrev pub if_called : Recording → Option Recording
+if_called r = elim r.calls [ [] ↦ None | call ∷ calls ↦ Some r ]
 
--- 1 to 64 calls of a component of an application, whose recording has a spelling of at most 16,384 bytes
-abbrev pub can_be_recorded : List ℕ → List ℕ → List RawCall → Bool
-can_be_recorded app component calls =
-    is_app_name app && (is_name component && (is_between 1 64 (length calls) && (list_all call_fits calls && nat_le (length (spelled_recording (as_recorded app component calls))) 16384)))
+abbrev pub if_recorded : Result Recording Refusal → Option Recording
+if_recorded (Ok r) = if_called r
+if_recorded (Err refusal) = None
 
--- the recording of these calls, where they can be recorded
-abbrev pub recording_of : List ℕ → List ℕ → List RawCall → Option Recording
-recording_of app component calls = if can_be_recorded app component calls then Some (as_recorded app component calls) else None
+-- what an order sends
+abbrev pub recording_sent : State → Act → Option Recording
+recording_sent s (CommitSlot n) = option_and_then if_called (in_slot n s.clients)
+recording_sent s (Send app component calls) = if_recorded (recorded s.history.catalogue app component calls)
+recording_sent s _ = None

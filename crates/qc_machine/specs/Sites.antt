@@ -1,6 +1,7 @@
 -- The history that a site stands for, the state that it is read as, and what a crash leaves of it.
-use Rattle.std.specs.Prelude.{◌≡◌, ℕ, ◌+◌, max, List, [], ◌∷◌, ◌++◌, length, sum_by, codes, true}
+use Rattle.std.specs.Prelude.{◌≡◌, ℕ, ◌+◌, max, List, [], ◌∷◌, ◌++◌, length, replicate, Option, None, sum_by, codes, true}
 use Rattle.qc_base.specs.declared.fact.Fact.{Fact}
+use Rattle.qc_base.specs.declared.recording.Recording.{Recording}
 use Rattle.qc_site.specs.Image.{Image}
 use Rattle.qc_site.specs.Disk.{Images}
 use Rattle.qc_frame.specs.Frame.{groups, HasHeader}
@@ -39,9 +40,13 @@ end_gate file = 16 + sum_by (λ payload. 5 + length payload) (groups file)
 abbrev pub file_end : List ℕ → FileEnd
 file_end file = record { gate = end_gate file; size = max (length file) (end_gate file + 1) }
 
+-- no recorder is open
+abbrev pub no_clients : List (Option Recording)
+no_clients = replicate 16 None
+
 -- a history as it was read, with the moment of its last fact as the last one seen
 abbrev pub as_read : Limits → History → FileEnd → FileEnd → State
-as_read limits h journal log = record { history = h; last = h.last; journal = journal; log = log; limits = limits }
+as_read limits h journal log = record { history = h; last = h.last; clients = no_clients; journal = journal; log = log; limits = limits }
 
 -- the image stands for a history, and is read as this state
 pub record ReadsAs (limits : Limits) (image : Image) (s : State) : Type 0 where

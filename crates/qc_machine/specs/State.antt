@@ -1,6 +1,7 @@
 -- The state of the machine.
-use Rattle.std.specs.Prelude.{◌≤◌, ◌<◌, ℕ, ◌+◌, max, nat_le, length, Bool}
+use Rattle.std.specs.Prelude.{ℕ, ◌+◌, ◌-◌, max, nat_le, List, length, Bool, Option, option_and_then, slice_get, slice_set}
 use Rattle.qc_base.specs.declared.fact.Fact.{Fact}
+use Rattle.qc_base.specs.declared.recording.Recording.{Recording}
 use Rattle.qc_base.specs.Spelling.{spelled_fact}
 use Rattle.qc_machine.specs.declared.limits.Limits.{Limits}
 use Rattle.qc_machine.specs.History.{History, with_fact}
@@ -14,6 +15,8 @@ pub record State : Type 0 where
   pub history : History
   -- the last moment seen
   pub last : ℕ
+  -- what each client's recorder holds, for the clients 1 to 16
+  pub clients : List (Option Recording)
   pub journal : FileEnd
   pub log : FileEnd
   pub limits : Limits
@@ -37,3 +40,14 @@ has_room s file more = nat_le (file.size + more) s.limits.log_bytes
 -- the moment used is the greater of the order's own and the last moment seen
 abbrev pub at_moment : ℕ → State → State
 at_moment t s = record s { last = max t s.last }
+
+-- the content of a slot, by its number from 1
+
+abbrev pub in_slot : {A : Type 0} → ℕ → List (Option A) → Option A
+in_slot n slots = option_and_then (λ o. o) (slice_get slots (n - 1))
+
+abbrev pub set_slot : {A : Type 0} → ℕ → Option A → List (Option A) → List (Option A)
+set_slot n content slots = slice_set slots (n - 1) content
+
+abbrev pub with_client : ℕ → Option Recording → State → State
+with_client n recorder s = record s { clients = set_slot n recorder s.clients }

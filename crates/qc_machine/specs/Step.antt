@@ -1,33 +1,53 @@
 -- One order is one step.
-use Rattle.std.specs.Prelude.{ℕ, List, [], ◌∷◌, Bool, false, not, Option, Some, None, is_none, if◌then◌else◌}
-use Rattle.qc_base.specs.Names.{is_app_name}
+use Rattle.std.specs.Prelude.{List, [], ◌∷◌, Bool, true, false, not, Option, Some, None, if◌then◌else◌}
 use Rattle.qc_protocol.specs.declared.order.Order.{Order}
 use Rattle.qc_protocol.specs.declared.order.Act.{Act}
-use Rattle.qc_protocol.specs.declared.order.Act.TheVariants.{Send, Queues}
+use Rattle.qc_protocol.specs.declared.order.Act.TheVariants.{OpenSlot, CallSlot, CommitSlot, CancelSlot, Send, Queues}
 use Rattle.qc_protocol.specs.declared.reply.Refusal.{Refusal}
 use Rattle.qc_protocol.specs.declared.reply.Refusal.TheVariants.{NotBuilt}
 use Rattle.qc_protocol.specs.declared.reply.Reply.TheVariants.{SentNothing, Refused}
-use Rattle.qc_machine.specs.State.{State, at_moment}
+use Rattle.qc_recorder.specs.Recording.{begun}
+use Rattle.qc_machine.specs.State.{State, at_moment, in_slot, with_client}
 use Rattle.qc_machine.specs.Steps.{Step, stays}
 use Rattle.qc_machine.specs.Refuse.{refuse_if, first_some, is_of_line}
-use Rattle.qc_machine.specs.Sending.{recording_sent, no_room, send_step}
+use Rattle.qc_machine.specs.Slots.{no_such_slot, slot_busy, slot_idle}
+use Rattle.qc_machine.specs.Names.{unknown_app}
+use Rattle.qc_machine.specs.Recorded.{called_by, recording_sent, not_recorded}
+use Rattle.qc_machine.specs.Recording.{open_step, call_step, cancel_step}
+use Rattle.qc_machine.specs.Sending.{no_room, send_step}
 use Rattle.qc_machine.specs.Listing.{queues_shown}
 
--- the orders that are there: a send that can be recorded, and the listing of an application's queues
-abbrev pub is_built : State → Act → Bool
-is_built s (Send app component calls) = not (is_none (recording_sent s (Send app component calls)))
-is_built s (Queues app) = is_app_name app
-is_built s _ = false
+-- the orders that are there: those on recorders, a send, and the listing of an application's queues
+abbrev pub is_built : Act → Bool
+is_built (OpenSlot n app component) = true
+is_built (CallSlot n call) = true
+is_built (CommitSlot n) = true
+is_built (CancelSlot n) = true
+is_built (Send app component calls) = true
+is_built (Queues app) = true
+is_built _ = false
 
-abbrev pub not_built : State → Act → Option Refusal
-not_built s act = refuse_if (not (is_built s act)) NotBuilt
+abbrev pub not_built : Act → Option Refusal
+not_built act = refuse_if (not (is_built act)) NotBuilt
 
 -- the refusal of an order, the first by number
 unfoldable pub refusal : State → Act → Option Refusal
-refusal s act = first_some (not_built s act ∷ no_room s act ∷ [])
+refusal s act = first_some (
+    not_built act
+    ∷ no_such_slot act
+    ∷ slot_busy s act
+    ∷ slot_idle s act
+    ∷ unknown_app s act
+    ∷ not_recorded s act
+    ∷ no_room s act
+    ∷ [])
 
 -- an order that isn't refused; each other one is refused
 abbrev pub step_of : State → Act → Step
+step_of s (OpenSlot n app component) = open_step s n (begun s.history.catalogue app component)
+step_of s (CallSlot n call) = call_step s n (called_by s n call)
+step_of s (CommitSlot n) = send_step (with_client n None s) (recording_sent s (CommitSlot n))
+step_of s (CancelSlot n) = cancel_step s n (in_slot n s.clients)
 step_of s (Send app component calls) = send_step s (recording_sent s (Send app component calls))
 step_of s (Queues app) = stays s (queues_shown s.history.messages app)
 step_of s _ = stays s SentNothing

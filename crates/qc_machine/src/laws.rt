@@ -4,7 +4,7 @@ ghost use Rattle.qc_protocol.specs.declared.order.Order.{Order};
 ghost use Rattle.qc_protocol.specs.declared.reply.Refusal.{Refusal};
 ghost use Rattle.qc_protocol.specs.declared.reply.Reply.TheVariants.{Refused};
 ghost use Rattle.qc_machine.specs.History.{Reader};
-ghost use Rattle.qc_machine.specs.Laws.{GoesOn, IsInRange, IsSettled};
+ghost use Rattle.qc_machine.specs.Laws.{GoesOn, IsInRange, IsSettled, ReadsOrderly};
 ghost use Rattle.qc_machine.specs.Refuse.{is_of_line};
 ghost use Rattle.qc_machine.specs.State.{State, at_moment};
 ghost use Rattle.qc_machine.specs.Step.{step};
@@ -19,8 +19,8 @@ pub fn steps_keep_the_rules()
     ensures facts { (s x : State) (order : Order) → IsBetween s (step s order) x → GoesOn s x × GoesOn x (step s order).state }
 {}
 
-/// A step keeps histories legal: its end and each state in its midst has a legal history, and is what its facts settle
-/// (docs/RULES.md, "Histories").
+/// A step keeps histories legal: its end and each state in its midst has a legal history, and is what its facts settle.
+/// What recorders hold may be sent (docs/RULES.md, "Histories").
 pub fn steps_keep_histories_legal()
-    ensures { (read : Reader) (s x : State) (order : Order) → IsInRange order s → IsSettled read s → IsBetween s (step s order) x → IsSettled read x }
+    ensures { (read : Reader) (s x : State) (order : Order) → ReadsOrderly read → IsInRange order s → IsSettled read s → IsBetween s (step s order) x → IsSettled read x }
 {}

@@ -22,7 +22,7 @@ use Rattle.qc_machine.specs.Steps.{IsBetween}
 use Rattle.qc_machine.proofs.Images.{facts-few, stays-journal}
 use Rattle.qc_hub.specs.declared.hub.Hub.{Hub}
 use Rattle.qc_hub.specs.Stands.{IsHubOf, AreNumbered}
-use Rattle.qc_hub.proofs.Added.{Grown, grown-site, grown-hub, grown-legal, numbered-push, crash-between}
+use Rattle.qc_hub.proofs.Added.{Grown, fits-in, grown-site, grown-hub, grown-legal, numbered-push, crash-between}
 use Rattle.qc_hub.proofs.Calling.{journal-certain, log-certain, hurt-after}
 use Rattle.qc_hub.proofs.Later.{not-both}
 use Rattle.qc_hub.proofs.Logs.{other-stands}
@@ -37,7 +37,7 @@ returns-in_default-clause-steps g c =
     let images = site.may_leave c.args.site.now in
     let crash : site.told → (s : State) → IsHubOf hub s → IsSiteOf before s → LeavesOnly site.moment site.left_since c.args.site.now c.append_forced.new.site (LeavesOneOf images (IsBetween s (added c.args.fact s)))
     = λ told s h on.
-    let legal = grown-legal hub c.args.fact _ _ c.requires.sent.0 s h on.stands.legal c.requires.sent.1 refl refl c.requires.limits in
+    let legal = grown-legal hub c.args.fact _ _ c.requires.sent.recording s h on.stands.legal c.requires.sent.is refl refl c.requires.limits (fits-in hub s _ h (c.requires.sent.fits told)) in
     weaker site.moment site.left_since _ _ _ _
     (crash-between images c.args.fact before s on (journal-certain site hub c.args.site.now sound told) (log-certain site hub c.args.site.now sound told) c.requires.limits legal)
     (subst (λ (n : ℕ). LeavesOnly site.moment site.left_since c.args.site.now c.append_forced.new.site (After Journal (WholeOrNotFrom n (fact_payload c.args.fact)) images)) sound.whole (c.append_forced.ensures.makes.changes.any_moment told)) in
@@ -67,9 +67,9 @@ returns-clause-steps g c =
     let before = site.shown c.args.site.now in
     let after = site.shown c.append_forced.new.site in
     let images = site.may_leave c.args.site.now in
-    let recording : Recording = c.requires.sent.0 in
+    let recording : Recording = c.requires.sent.recording in
     let count : c.len-id.result ≡ length hub.store.messages = c.len-id.ensures.value in
-    let same : c.sent_recording-recording.result ≡ recording = c.sent_recording-recording.ensures _ _ _ c.requires.sent.1 in
+    let same : c.sent_recording-recording.result ≡ recording = c.sent_recording-recording.ensures _ _ _ c.requires.sent.is in
     let store : new.store.messages ≡ after_sent (length hub.store.messages + 1) recording (names_exception hub.catalogue recording) hub.last hub.store.messages
     = c.insert.ensures.messages
     ∙ ap (λ (b : Bool). after_sent (c.len-id.result + 1) c.sent_recording-recording.result b hub.last hub.store.messages) c.names_exception-final_class.ensures
@@ -84,11 +84,13 @@ returns-clause-steps g c =
     = λ told s h on.
     let whole = c.in-Ok.ensures.made told in
     record {
-      is = c.requires.sent.1;
+      is = c.requires.sent.is;
       next = refl;
       moment = refl;
       fits = c.requires.limits;
+      there = λ t k. fits-in hub t recording k (c.requires.sent.fits told);
       catalogue = refl;
+      clients = refl;
       store = store;
       counted = counted s told h on;
       journal = c.in-Ok.ensures.journal;
@@ -105,7 +107,7 @@ returns-clause-steps g c =
     let on_site : site.told → (s : State) → IsHubOf hub s → IsSiteOf before s → IsSiteOf after (with_new_fact c.args.fact s) = λ told s h on. grown-site hub new c.args.fact _ _ recording before after s h on (log told) (grown told s h on) in
     let crash : site.told → (s : State) → IsHubOf hub s → IsSiteOf before s → LeavesOnly site.moment site.left_since c.args.site.now c.append_forced.new.site (LeavesOneOf images (IsBetween s (added c.args.fact s)))
     = λ told s h on.
-    let legal = grown-legal hub c.args.fact _ _ recording s h on.stands.legal c.requires.sent.1 refl refl c.requires.limits in
+    let legal = grown-legal hub c.args.fact _ _ recording s h on.stands.legal c.requires.sent.is refl refl c.requires.limits (fits-in hub s _ h (c.requires.sent.fits told)) in
     weaker site.moment site.left_since _ _ _ _
     (crash-between images c.args.fact before s on (journal-certain site hub c.args.site.now sound told) (log-certain site hub c.args.site.now sound told) c.requires.limits legal)
     (subst (λ (n : ℕ). LeavesOnly site.moment site.left_since c.args.site.now c.append_forced.new.site (After Journal (WholeOrNotFrom n (fact_payload c.args.fact)) images)) sound.whole (c.append_forced.ensures.makes.changes.any_moment told)) in

@@ -1,0 +1,21 @@
+-- What an order names that the catalogue lacks.
+use Rattle.std.specs.Prelude.{ℕ, List, Option, Some, None, option_and_then, is_none}
+use Rattle.qc_protocol.specs.declared.order.Act.{Act}
+use Rattle.qc_protocol.specs.declared.order.Act.TheVariants.{Queues}
+use Rattle.qc_protocol.specs.declared.reply.Refusal.{Refusal}
+use Rattle.qc_protocol.specs.declared.reply.Refusal.TheVariants.{UnknownApp}
+use Rattle.qc_catalogue.specs.declared.catalogue.Catalogue.{Catalogue}
+use Rattle.qc_catalogue.specs.Lookup.{app_named}
+use Rattle.qc_machine.specs.State.{State}
+use Rattle.qc_machine.specs.Refuse.{refuse_if}
+
+-- the application whose queues an order asks for
+abbrev pub app_asked : Act → Option (List ℕ)
+app_asked (Queues app) = Some app
+app_asked _ = None
+
+abbrev pub app_unknown : Catalogue → List ℕ → Option Refusal
+app_unknown c app = refuse_if (is_none (app_named app c.apps)) UnknownApp
+
+abbrev pub unknown_app : State → Act → Option Refusal
+unknown_app s act = option_and_then (app_unknown s.history.catalogue) (app_asked act)
