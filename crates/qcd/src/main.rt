@@ -1,19 +1,22 @@
 //! The program: it carries out the words of its command line over standard input and output, and ends with the status.
 //!
-//! All that it does is `run` of `qc_drill`. What is made here is what `run` is lent: a site in memory, and the two
-//! streams (docs/RULES.md, "The program"). `program` says by which causes it ends, over any site and streams. Nothing is
-//! written to standard error.
+//! All that it does is `run` of `qc_drill`. What is made here is what `run` is lent: a site in memory or in a folder,
+//! and the two streams (docs/RULES.md, "The program"). `program` says by which causes it ends, over any sites and
+//! streams. Nothing is written to standard error.
 #![tactic(auto)]
 
 ghost use Rattle.std.specs.Prelude.{◌≡◌, ◌⊎◌, OnErr, Err};
 
 mod program;
-mod streams;
+mod real;
+mod sites;
+#[cfg(test)]
+mod tests;
 
 use crate::program::{carry_out, exit_code};
-use crate::streams::{StdSink, StdSource};
-use qc_memsite::MemSite;
+use crate::real::Real;
 use qc_protocol::Status;
+use qc_realsite::{RealSink, RealSource};
 use std::env;
 use std::io::ErrorKind;
 use std::process::ExitCode;
@@ -39,10 +42,13 @@ fn main(rt: HostRuntime) -> ExitCode {
         Ok(words) => words,
         Err(status) => return exit_code(status),
     };
-    let Ok(mut site) = MemSite::make(rt.alloc()) else {
-        return exit_code(Status::NoMemory);
-    };
-    let mut source = StdSource::over(rt.stdin());
-    let mut sink = StdSink::over(rt.stdout());
-    carry_out(rt.alloc(), &words, &mut site, &mut source, &mut sink)
+    let mut source = RealSource::over(rt.stdin());
+    let mut sink = RealSink::over(rt.stdout());
+    carry_out(
+        rt.alloc(),
+        words,
+        &mut Real::over(&rt),
+        &mut source,
+        &mut sink,
+    )
 }

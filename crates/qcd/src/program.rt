@@ -1,17 +1,19 @@
-// What the program does with its words, over any site and any streams.
-ghost use Rattle.std.specs.Prelude.{◌≡◌, ◌≢◌, ◌↔◌, true, false};
+// What the program does with its words, over any sites and any streams.
+ghost use Rattle.std.specs.Prelude.{◌≡◌, ◌≢◌, ◌↔◌, length, drop, true, false};
 ghost use Rattle.std.specs.Process.{exit_status};
 ghost use Rattle.qc_protocol.specs.Statuses.{status_code};
 ghost use Rattle.qc_site.specs.Causes.{Rose};
-ghost use Rattle.qc_drill.specs.Words.{is_drill as is_drill_word, is_init};
-ghost use Rattle.qc_drill.specs.Inits.{Inits};
-ghost use Rattle.qcd.specs.Made.{status_made};
-ghost use Rattle.qcd.specs.Runs.{DrillsOverSample, Ends};
+ghost use Rattle.qc_drill.specs.Words.{is_drill as is_drill_word, is_init as is_init_word};
+ghost use Rattle.qcd.specs.Made.{status_made, status_unopened};
+ghost use Rattle.qcd.specs.Requests.{is_command as is_command_of, is_request, folder_of};
+ghost use Rattle.qcd.specs.Runs.{DrillsOverSample, Ends, RunsMemory, RunsFolder};
 
+use crate::sites::Sites;
 use qc_catalogue::sample;
 use qc_drill::run;
 use qc_hub::{CreateError, Hub};
 use qc_protocol::Status;
+use qc_realsite::OpenError;
 use qc_site::{Sink, Site, Source};
 use std::alloc::Global;
 use std::process::ExitCode;
@@ -31,6 +33,21 @@ fn is_drill(words: &Vec<String>) -> bool
     }
 }
 
+fn is_init(words: &Vec<String>) -> bool
+    ensures { result ≡ is_init_word words.now.items }
+{
+    match words.as_slice() {
+        [word] => word.as_str() == "init",
+        _ => false,
+    }
+}
+
+fn is_command(words: &Vec<String>) -> bool
+    ensures { result ≡ is_command_of words.now.items }
+{
+    is_drill(words) || is_init(words)
+}
+
 // The status where no site could be made.
 fn status_of(error: CreateError) -> Status
     ensures { result ≡ status_made error }
@@ -40,6 +57,16 @@ fn status_of(error: CreateError) -> Status
         CreateError::AlreadyMade => Status::AlreadyMade,
         CreateError::BadCatalogue(_) => Status::BadCatalogue,
         CreateError::NoMemory => Status::NoMemory,
+    }
+}
+
+// The status where no site could be opened.
+fn status_where_unopened(error: OpenError) -> Status
+    ensures { result ≡ status_unopened error }
+{
+    match error {
+        OpenError::Taken | OpenError::Failed => Status::SiteFault,
+        OpenError::NoMemory => Status::NoMemory,
     }
 }
 
@@ -65,30 +92,117 @@ fn run_over_sample<S: Site, I: Source, O: Sink>(
     }
 }
 
-/// Carries out the words of a command line over a site that holds nothing yet, and gives the exit status. A drill has a
-/// site that was made from the sample catalogue (docs/RULES.md, "The program").
-pub(crate) fn carry_out<S: Site, I: Source, O: Sink>(
+// Carries out the words over a site in memory. A drill has one that is made from the sample catalogue.
+fn run_in_memory<M: Site + Drop, F, P: Sites<M, F>, I: Source, O: Sink>(
     alloc: Global,
     words: &Vec<String>,
-    site: &mut S,
+    sites: &mut P,
+    source: &mut I,
+    sink: &mut O,
+) -> Status
+    ensures bad_words { (result ≡ Status.BadWords) ↔ (is_command_of words.now.items ≡ false) }
+    ensures untouched { result ≡ Status.BadWords
+        → (sites.new ≡ sites.old) × ((source.new ≡ source.old) × (sink.new ≡ sink.old)) }
+    ensures source_fault { result ≡ Status.SourceFault → Rose (I.faults source.old) (I.faults source.new) }
+    ensures sink_fault { result ≡ Status.SinkFault → Rose (O.faults sink.old) (O.faults sink.new) }
+    ensures ran { RunsMemory M.Site (λ answer. P.makes sites.old answer sites.new) words.now.items
+        (I.left source.old) (O.contents sink.old) (I.left source.new) (O.contents sink.new) result }
+{
+    if !is_command(words) {
+        return Status::BadWords;
+    }
+    let mut site = match sites.make() {
+        Ok(site) => site,
+        Err(error) => return status_where_unopened(error),
+    };
+    if is_drill(words) {
+        return run_over_sample(alloc, words, &mut site, source, sink);
+    }
+    run(alloc, words, &mut site, source, sink)
+}
+
+// Carries out the words over the site in a folder.
+fn run_in_folder<M, F: Site + Drop, P: Sites<M, F>, I: Source, O: Sink>(
+    alloc: Global,
+    folder: &str,
+    words: &Vec<String>,
+    sites: &mut P,
+    source: &mut I,
+    sink: &mut O,
+) -> Status
+    ensures bad_words { (result ≡ Status.BadWords) ↔ (is_command_of words.now.items ≡ false) }
+    ensures untouched { result ≡ Status.BadWords
+        → (sites.new ≡ sites.old) × ((source.new ≡ source.old) × (sink.new ≡ sink.old)) }
+    ensures source_fault { result ≡ Status.SourceFault → Rose (I.faults source.old) (I.faults source.new) }
+    ensures sink_fault { result ≡ Status.SinkFault → Rose (O.faults sink.old) (O.faults sink.new) }
+    ensures ran { RunsFolder F.Site (λ answer. P.opens sites.old folder.now answer sites.new) words.now.items
+        (I.left source.old) (O.contents sink.old) (I.left source.new) (O.contents sink.new) result }
+{
+    if !is_command(words) {
+        return Status::BadWords;
+    }
+    match sites.open(folder) {
+        Ok(mut site) => run(alloc, words, &mut site, source, sink),
+        Err(error) => status_where_unopened(error),
+    }
+}
+
+// Carries out the words: a command over a site in memory, or behind the path of a folder over the site there.
+pub(crate) fn run_words<M: Site + Drop, F: Site + Drop, P: Sites<M, F>, I: Source, O: Sink>(
+    alloc: Global,
+    mut words: Vec<String>,
+    sites: &mut P,
+    source: &mut I,
+    sink: &mut O,
+) -> Status
+    ensures bad_words { (result ≡ Status.BadWords) ↔ (is_request words.items ≡ false) }
+    ensures untouched { result ≡ Status.BadWords
+        → (sites.new ≡ sites.old) × ((source.new ≡ source.old) × (sink.new ≡ sink.old)) }
+    ensures source_fault { result ≡ Status.SourceFault → Rose (I.faults source.old) (I.faults source.new) }
+    ensures sink_fault { result ≡ Status.SinkFault → Rose (O.faults sink.old) (O.faults sink.new) }
+    ensures memory { length words.items ≡ 1
+        → RunsMemory M.Site (λ answer. P.makes sites.old answer sites.new) words.items
+        (I.left source.old) (O.contents sink.old) (I.left source.new) (O.contents sink.new) result }
+    ensures folder { length words.items ≡ 2
+        → RunsFolder F.Site (λ answer. P.opens sites.old (folder_of words.items) answer sites.new)
+        (drop 1 words.items) (I.left source.old) (O.contents sink.old) (I.left source.new) (O.contents sink.new)
+        result }
+{
+    if words.len() == 1 {
+        return run_in_memory(alloc, &words, sites, source, sink);
+    }
+    if words.len() != 2 {
+        return Status::BadWords;
+    }
+    let folder = words.remove(0);
+    run_in_folder(alloc, folder.as_str(), &words, sites, source, sink)
+}
+
+/// Carries out the words of a command line, and gives the exit status.
+///
+/// One word is a command over a site in memory, which holds nothing yet; a drill has one that was made from the sample
+/// catalogue. Before it may stand the path of a folder: then it is the site there. Bad words are status 1, and nothing
+/// is opened or made for them (docs/RULES.md, "The program").
+pub(crate) fn carry_out<M: Site + Drop, F: Site + Drop, P: Sites<M, F>, I: Source, O: Sink>(
+    alloc: Global,
+    words: Vec<String>,
+    sites: &mut P,
     source: &mut I,
     sink: &mut O,
 ) -> ExitCode
-    ensures bad_words { (exit_status result ≡ 1)
-        ↔ ((is_drill_word words.now.items ≡ false) × (is_init words.now.items ≡ false)) }
+    ensures bad_words { (exit_status result ≡ 1) ↔ (is_request words.items ≡ false) }
+    ensures untouched { exit_status result ≡ 1
+        → (sites.new ≡ sites.old) × ((source.new ≡ source.old) × (sink.new ≡ sink.old)) }
     ensures source_fault { exit_status result ≡ 2 → Rose (I.faults source.old) (I.faults source.new) }
     ensures sink_fault { exit_status result ≡ 3 → Rose (O.faults sink.old) (O.faults sink.new) }
-    ensures site_fault { exit_status result ≡ 4 → Rose (S.faults site.old) (S.faults site.new) }
     // It ends with the status of the run that was made.
-    ensures init { is_init words.now.items ≡ true
-        → Ends (λ status. Inits S.Site status site.old (I.left source.old) (O.contents sink.old) site.new
-        (I.left source.new) (O.contents sink.new)) (exit_status result) }
-    ensures drill { is_drill_word words.now.items ≡ true
-        → Ends (DrillsOverSample S.Site site.old (I.left source.old) (O.contents sink.old) site.new
-        (I.left source.new) (O.contents sink.new)) (exit_status result) }
+    ensures memory { length words.items ≡ 1
+        → Ends (RunsMemory M.Site (λ answer. P.makes sites.old answer sites.new) words.items
+        (I.left source.old) (O.contents sink.old) (I.left source.new) (O.contents sink.new)) (exit_status result) }
+    ensures folder { length words.items ≡ 2
+        → Ends (RunsFolder F.Site (λ answer. P.opens sites.old (folder_of words.items) answer sites.new)
+        (drop 1 words.items) (I.left source.old) (O.contents sink.old) (I.left source.new) (O.contents sink.new))
+        (exit_status result) }
 {
-    if is_drill(words) {
-        return exit_code(run_over_sample(alloc, words, site, source, sink));
-    }
-    exit_code(run(alloc, words, site, source, sink))
+    exit_code(run_words(alloc, words, sites, source, sink))
 }
