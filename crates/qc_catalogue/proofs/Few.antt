@@ -11,7 +11,7 @@ use Rattle.qc_catalogue.specs.declared.catalogue.Component.{Component}
 use Rattle.qc_catalogue.specs.declared.catalogue.Exception.{Exception}
 use Rattle.qc_catalogue.specs.declared.field.Field.TheVariants.{Params}
 use Rattle.qc_catalogue.specs.declared.params.Declared.{Declared}
-use Rattle.qc_catalogue.specs.declared.script.Names.{Names}
+use Rattle.qc_script.specs.declared.names.Names.{Names}
 use Rattle.qc_catalogue.specs.Applications.{methods_in, exception_in, component_in, app_in}
 use Rattle.qc_catalogue.specs.Catalogue.{catalogue_in, catalogue_of, names_in}
 use Rattle.qc_catalogue.specs.Fields.{value_at}

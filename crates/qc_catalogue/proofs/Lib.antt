@@ -6,6 +6,7 @@ pub mod Few
 pub mod Findings
 pub mod Lookups
 pub mod Members
+mod MethodFound
 pub mod Orderly
 pub mod ParamKinds
 pub mod Passed

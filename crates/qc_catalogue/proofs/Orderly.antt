@@ -16,12 +16,12 @@ use Rattle.qc_catalogue.specs.declared.catalogue.Opening.{Opening}
 use Rattle.qc_catalogue.specs.declared.catalogue.Resource.{Resource}
 use Rattle.qc_catalogue.specs.declared.error.CatalogueError.TheVariants.{BadField, UnknownName}
 use Rattle.qc_catalogue.specs.declared.field.Field.TheVariants.{Table, Resource as ResourceField, Application, Rows, Id, Exception as ExceptionField, Component as ComponentField, Class, Method as MethodField}
-use Rattle.qc_catalogue.specs.declared.script.Names.{Names}
+use Rattle.qc_script.specs.declared.names.Names.{Names}
 use Rattle.qc_catalogue.specs.Applications.{id_found, names_class, exception_at, exceptions_in, exception_found, methods_in, component_found, component_from, app_found, app_from, app_in}
 use Rattle.qc_catalogue.specs.Catalogue.{names_in, apps_found, found_in, catalogue_in, catalogue_of}
 use Rattle.qc_catalogue.specs.Fields.{value_at, members_at, table_at}
 use Rattle.qc_catalogue.specs.Findings.{field_path, in_table, in_optional, in_names}
-use Rattle.qc_catalogue.specs.Laws.{StandInOrder}
+use Rattle.qc_catalogue.specs.Laws.{StandInOrder, keys_ascend}
 use Rattle.qc_catalogue.specs.Lookup.{exception_named}
 use Rattle.qc_catalogue.specs.Methods.{method_found, method_from}
 use Rattle.qc_catalogue.specs.Orderly.{keys_apart, is_method, is_component_of, is_app, is_orderly}
@@ -99,10 +99,14 @@ orderly text c h =
     subst (λ (x : Catalogue). is_orderly x ≡ true) made.says
     (orderly_in made.document (document_by text made.document (is_utf8 text) made.is) (record { before = []; after = made.met; clean = made.clean }))
 
+rows_ascend : (ms : Members) → members_are_sorted ms ≡ true → keys_ascend (rows_in ms) ≡ true
+rows_ascend ms sorted = ascending _ (λ (r : List ℕ × ℕ). r.0) (λ k d. refl) ms sorted
+
 order_in : (ms : Members) → members_are_sorted ms ≡ true → StandInOrder (catalogue_in ms)
 order_in ms sorted = record {
   apps = ascending (app_in (names_in ms)) (λ (a : App). a.name) (λ k d. refl) (table_at Application ms) (sorted-at Application ms sorted);
   tables = ascending opening_in (λ (t : Opening). t.name) (λ k d. refl) (table_at Table ms) (sorted-at Table ms sorted);
+  rows = every_sorted opening_in (λ (t : Opening). keys_ascend t.rows) (λ k d h. rows_ascend (members_of d) (sorted-inside d h)) (table_at Table ms) (sorted-at Table ms sorted);
   resources = ascending (λ name d. resource_in name (members_of d)) (λ (r : Resource). r.name) (λ k d. refl) (table_at ResourceField ms) (sorted-at ResourceField ms sorted);
 }
 

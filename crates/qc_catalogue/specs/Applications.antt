@@ -9,10 +9,10 @@ use Rattle.qc_catalogue.specs.declared.catalogue.Exception.{Exception}
 use Rattle.qc_catalogue.specs.declared.catalogue.Method.{Method}
 use Rattle.qc_catalogue.specs.declared.error.CatalogueError.TheVariants.{BadField, UnknownName}
 use Rattle.qc_catalogue.specs.declared.field.Field.TheVariants.{Id, Exception as ExceptionField, Component as ComponentField, Class, Final, Method as MethodField}
-use Rattle.qc_catalogue.specs.declared.script.Names.{Names}
-use Rattle.qc_catalogue.specs.declared.script.Param.{Param}
-use Rattle.qc_catalogue.specs.declared.script.ParamKind.{ParamKind}
-use Rattle.qc_catalogue.specs.declared.script.ParamKind.TheVariants.{Text, Whole}
+use Rattle.qc_script.specs.declared.names.Names.{Names}
+use Rattle.qc_script.specs.declared.names.Param.{Param}
+use Rattle.qc_script.specs.declared.names.ParamKind.{ParamKind}
+use Rattle.qc_script.specs.declared.names.ParamKind.TheVariants.{Text, Whole}
 use Rattle.qc_catalogue.specs.Fields.{value_at, text_at, members_at, table_at}
 use Rattle.qc_catalogue.specs.Findings.{Finding, broken, named, under, field_path, rule, in_order, each, in_table, in_optional, in_names, unknown}
 use Rattle.qc_catalogue.specs.Lookup.{exception_named, method_of}

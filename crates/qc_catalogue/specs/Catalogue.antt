@@ -10,7 +10,7 @@ use Rattle.qc_catalogue.specs.declared.catalogue.Resource.{Resource}
 use Rattle.qc_catalogue.specs.declared.error.CatalogueError.{CatalogueError}
 use Rattle.qc_catalogue.specs.declared.error.CatalogueError.TheVariants.{TextTooLong, NotToml}
 use Rattle.qc_catalogue.specs.declared.field.Field.TheVariants.{Table, Resource as ResourceField, Application}
-use Rattle.qc_catalogue.specs.declared.script.Names.{Names}
+use Rattle.qc_script.specs.declared.names.Names.{Names}
 use Rattle.qc_catalogue.specs.Applications.{app_found, app_in}
 use Rattle.qc_catalogue.specs.Fields.{value_at, members_at, table_at}
 use Rattle.qc_catalogue.specs.Findings.{Finding, field_path, in_order, each, in_table, in_optional, in_names, unknown, walked}

@@ -1,7 +1,7 @@
 -- What holds of every catalogue.
 use Rattle.std.specs.Prelude.{◌≡◌, ◌≤◌, ℕ, List, [], ◌∷◌, length, map, Bool, true, ◌&&◌}
 use Rattle.std.specs.Cmp.Lexicographic.{slice_cmp}
-use Rattle.std.specs.List.{All}
+use Rattle.std.specs.List.{All, list_all}
 use Rattle.std.specs.Ordering.{nat_cmp, is_lt}
 use Rattle.qc_catalogue.specs.declared.catalogue.App.{App}
 use Rattle.qc_catalogue.specs.declared.catalogue.Catalogue.{Catalogue}
@@ -24,8 +24,12 @@ ascend [] = true
 ascend (n ∷ []) = true
 ascend (n ∷ m ∷ ns) = is_lt (slice_cmp nat_cmp n m) && ascend (m ∷ ns)
 
--- applications, tables and resources stand in byte order of their names
+abbrev pub keys_ascend : List (List ℕ × ℕ) → Bool
+keys_ascend rows = ascend (map (λ (r : List ℕ × ℕ). r.0) rows)
+
+-- applications, tables and resources stand in byte order of their names, and a table's rows in that of their keys
 pub record StandInOrder (c : Catalogue) : Type 0 where
   pub apps : ascend (map (λ (a : App). a.name) c.apps) ≡ true
   pub tables : ascend (map (λ (t : Opening). t.name) c.tables) ≡ true
+  pub rows : list_all (λ (t : Opening). keys_ascend t.rows) c.tables ≡ true
   pub resources : ascend (map (λ (r : Resource). r.name) c.resources) ≡ true

@@ -1,6 +1,5 @@
 pub mod Fields
 pub mod Findings
-pub mod Scripts
 pub mod Rows
 pub mod Methods
 pub mod Applications

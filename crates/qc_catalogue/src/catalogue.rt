@@ -2,10 +2,10 @@
 ghost use Rattle.std.specs.Prelude.{◌≡◌, option_map};
 ghost use Rattle.qc_catalogue.specs.Lookup.{app_named, component_named, method_of, exception_named, resource_named, table_named};
 
-use crate::lists::{AmountRows, Entries};
+use crate::lists::AmountRows;
 use crate::lookup::find_named;
-use crate::script::{Params, Script};
 use qc_base::{Amount, Name};
+use qc_script::{Entries, Params, Script};
 
 /// A table with the rows that it opens with.
 #[derive(Debug, Drop)]

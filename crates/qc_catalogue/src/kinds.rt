@@ -9,7 +9,7 @@ use crate::error::CatalogueError;
 use crate::field::Field;
 use crate::lookup::find_named;
 use crate::paths::{bad_key, field_path, under};
-use crate::script::{Param, ParamKind};
+use qc_script::{Param, ParamKind};
 use std::alloc::Global;
 
 fn same_kind(a: ParamKind, b: ParamKind) -> bool

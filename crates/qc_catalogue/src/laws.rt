@@ -16,8 +16,8 @@ pub fn each_catalogue_is_orderly()
     ensures { (text : List ℕ) (c : Catalogue) → IsCatalogueOf text c → is_orderly c ≡ true }
 {}
 
-/// The applications, tables and resources of a catalogue stand in byte order of their names, in whatever order its
-/// text has them.
+/// The applications, tables and resources of a catalogue stand in byte order of their names, and a table's rows in that
+/// of their keys, in whatever order its text has them.
 pub fn lists_stand_in_order()
     ensures { (text : List ℕ) (c : Catalogue) → IsCatalogueOf text c → StandInOrder c }
 {}

@@ -6,8 +6,7 @@
 //!
 //! `catalogue_of` of `specs/Catalogue.antt` says which catalogue a text has: `found_in` lists what a walk through
 //! its tables finds, rule by rule, and the first that is broken is the refusal; `catalogue_in` is what the tables
-//! say where none is. A script is any text of at most 4,096 bytes so far; its parser will take the place of the
-//! module `script`.
+//! say where none is. Scripts are read by `qc_script`, with the tables and resources of this text.
 #![tactic(auto)]
 
 mod applications;
@@ -28,7 +27,6 @@ mod read;
 mod resources;
 mod rows;
 mod sample_text;
-mod script;
 mod tables;
 #[cfg(test)]
 mod tests;
@@ -39,12 +37,13 @@ mod worked;
 pub use catalogue::{App, Catalogue, Component, Exception, Method, Opening, Resource};
 pub use error::CatalogueError;
 pub use laws::{each_catalogue_is_orderly, lists_stand_in_order, methods_take_few_arguments};
-pub use lists::{AmountRows, Entries};
+pub use lists::AmountRows;
+pub use qc_script::{Entries, Param, ParamKind, Params, Script};
 pub use sample_text::sample;
-pub use script::{Names, Param, ParamKind, Params, Script, ScriptError, parse_script};
 pub use text::print_error;
 pub use worked::{
-    a_class_takes_its_calls, a_long_script_is_bad, a_long_text_is_refused,
-    a_resource_has_its_phases, a_text_of_applications_has_one, an_output_is_not_queueable,
-    bounds_come_in_pairs, ids_differ, keys_are_names, the_sample_is_a_catalogue,
+    a_bad_script_is_told_by_its_line, a_class_takes_its_calls, a_long_script_is_bad,
+    a_long_text_is_refused, a_resource_has_its_phases, a_text_of_applications_has_one,
+    an_output_is_not_queueable, bounds_come_in_pairs, ids_differ, keys_are_names,
+    the_sample_is_a_catalogue,
 };

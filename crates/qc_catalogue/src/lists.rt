@@ -1,39 +1,9 @@
 // Vectors that contracts see as lists.
-ghost use Rattle.std.specs.Prelude.{◌≡◌, List, IfOk};
+ghost use Rattle.std.specs.Prelude.{◌≡◌, IfOk};
 
 use qc_base::{Amount, NoMemory, Text};
 use std::alloc::Global;
 use std::marker::Model;
-
-/// What a table of names holds, in byte order of the names. Contracts see a list.
-#[derive(Debug, Drop)]
-pub struct Entries<T> {
-    items: Vec<T>,
-}
-
-impl<T> Model for Entries<T> {
-    ghost use Rattle.std.specs.Prelude.{List};
-
-    ghost Value = { List T };
-
-    ghost view = { λ e. e.items.items };
-}
-
-impl<T> Entries<T> {
-    /// The items of a vector. This takes no memory.
-    pub fn over(items: Vec<T>) -> Entries<T>
-        ensures { result ≡ items.items }
-    {
-        Entries { items }
-    }
-
-    /// The items, in order.
-    pub fn as_slice(&self) -> &[T]
-        ensures { result.now ≡ self.now }
-    {
-        self.items.as_slice()
-    }
-}
 
 /// Rows with their opening amounts, in byte order of the keys. Contracts see a list of pairs.
 #[derive(Debug, Drop)]

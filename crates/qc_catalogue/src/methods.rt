@@ -11,13 +11,12 @@ ghost use Rattle.qc_catalogue.specs.declared.field.Field.TheVariants.{Method as 
 use crate::catalogue::Method;
 use crate::error::CatalogueError;
 use crate::field::Field;
-use crate::lists::Entries;
 use crate::params::{inputs, is_queueable, params_at};
 use crate::paths::{bad_field, bad_script, field_path, not_queueable, under};
-use crate::script::{Names, Param, Script, ScriptError, parse_script};
 use crate::tables::{as_table, check_known, check_names, name_of, table_at};
 use crate::values::text_at;
 use qc_base::Name;
+use qc_script::{Entries, Names, Param, Script, ScriptError, parse_script};
 use std::alloc::Global;
 use toml::{Table, Value};
 

@@ -13,12 +13,13 @@ ghost use Rattle.qc_catalogue.specs.declared.field.Field.TheVariants.{Low, High,
 use crate::catalogue::Resource;
 use crate::error::CatalogueError;
 use crate::field::Field;
-use crate::lists::{AmountRows, Entries};
+use crate::lists::AmountRows;
 use crate::paths::{bad_field, field_path, under};
 use crate::rows::read_rows;
 use crate::tables::{as_table, check_known, check_names, name_of, table_at};
 use crate::values::{amount_of, text_at, value_at, whole_of};
 use qc_base::{Amount, Name};
+use qc_script::Entries;
 use std::alloc::Global;
 use toml::{Table, Value};
 

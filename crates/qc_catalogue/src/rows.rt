@@ -11,11 +11,12 @@ ghost use Rattle.qc_catalogue.specs.declared.field.Field.TheVariants.{Table as T
 use crate::catalogue::Opening;
 use crate::error::CatalogueError;
 use crate::field::Field;
-use crate::lists::{AmountRows, Entries};
+use crate::lists::AmountRows;
 use crate::paths::{bad_key, bad_path, field_path, under};
 use crate::tables::{as_table, check_names, has_count, name_of};
 use crate::values::{amount_of, value_at};
 use qc_base::{Amount, Text};
+use qc_script::Entries;
 use std::alloc::Global;
 use toml::{Table, Value};
 

@@ -5,7 +5,7 @@ mod order;
 mod pieces;
 mod tables;
 
-use crate::{Catalogue, Entries, Names, parse_script, print_error, sample};
+use crate::{Catalogue, print_error, sample};
 use applications::APPLICATIONS;
 use limits::LIMITS;
 use order::ORDER;
@@ -129,7 +129,6 @@ fn are_copied(alloc: Global, catalogue: &Catalogue) -> Result<bool, NoMemory> {
         return Ok(false);
     };
     let params = method.params.copy(alloc)?;
-    let _script = method.script.copy(alloc)?;
     Ok(rows.as_slice().len() == 2 && params.as_slice().len() == 2)
 }
 
@@ -138,20 +137,5 @@ fn parts_are_copied(rt: HostRuntime) -> Result<(), Fail> {
     let catalogue = Catalogue::read(rt.alloc(), sample().as_bytes()).map_err(|_| "refused")?;
     let copied = are_copied(rt.alloc(), &catalogue).map_err(|_| "memory")?;
     assert!(rt; copied);
-    Ok(())
-}
-
-fn no_names(alloc: Global) -> Names {
-    Names {
-        tables: Entries::over(Vec::new(alloc)),
-        resources: Entries::over(Vec::new(alloc)),
-    }
-}
-
-#[test]
-fn scripts_are_parsed(rt: HostRuntime) -> Result<(), Fail> {
-    let names = no_names(rt.alloc());
-    let script = parse_script(rt.alloc(), "abort".as_bytes(), &[], &names);
-    assert!(rt; script.is_ok());
     Ok(())
 }

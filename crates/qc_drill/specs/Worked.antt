@@ -94,3 +94,11 @@ two_sends_and_queues = codes "{\"at\":5,\"do\":\"send\",\"app\":\"Orders\",\"com
 
 abbrev pub two_sent_and_listed : List ℕ
 two_sent_and_listed = codes "sent 1\nsent 2\nrefused 2 Malformed at\nqueues Orders 1/0/5, 2/0/5; Orders_0; Orders_1; Orders_2; Orders_3; Orders_4; Orders_DeadQueue; consumed 0\n"
+
+-- tables: one with rows, one without, and one that the catalogue lacks
+
+abbrev pub three_tables : List ℕ
+three_tables = codes "{\"at\":0,\"do\":\"table\",\"table\":\"stock\"}\n{\"at\":0,\"do\":\"table\",\"table\":\"sold\"}\n{\"at\":0,\"do\":\"table\",\"table\":\"none\"}\n"
+
+abbrev pub three_shown : List ℕ
+three_shown = codes "table stock \"bolt\" 10, \"nut\" 3; total 13\ntable sold; total 0\nrefused 17 UnknownTable\n"

@@ -26,5 +26,5 @@ pub use command::run;
 pub use laws::lines_lose_no_fact;
 pub use worked::{
     a_fact_without_its_tag_is_damage, a_group_that_is_cut_is_closed, a_send_is_listed,
-    a_send_takes_its_room, two_sends_are_listed,
+    a_send_takes_its_room, tables_are_listed, two_sends_are_listed,
 };

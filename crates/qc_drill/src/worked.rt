@@ -12,7 +12,7 @@ ghost use Rattle.qc_machine.specs.Opening.{DamagedAt};
 ghost use Rattle.qc_machine.specs.Sites.{ReadsAs, IsSiteOf, as_read};
 ghost use Rattle.qc_drill.specs.Headline.{programs_limits, run_out, run_to};
 ghost use Rattle.qc_drill.specs.Unopened.{damage_line};
-ghost use Rattle.qc_drill.specs.Worked.{made_facts, made_journal, made_log, made_end, just_made, made_within, send_and_queues, send_order, queues_order, sent_and_listed, sent_fact, sent_group, sent_journal, cut_journal, untagged_journal, full_and_listed, two_sends_and_queues, two_sent_and_listed};
+ghost use Rattle.qc_drill.specs.Worked.{made_facts, made_journal, made_log, made_end, just_made, made_within, send_and_queues, send_order, queues_order, sent_and_listed, sent_fact, sent_group, sent_journal, cut_journal, untagged_journal, full_and_listed, two_sends_and_queues, two_sent_and_listed, three_tables, three_shown};
 
 use qc_catalogue::the_sample_is_a_catalogue;
 
@@ -66,6 +66,13 @@ pub fn a_send_takes_its_room()
 pub fn two_sends_are_listed()
     ensures replies { run_out just_made two_sends_and_queues ≡ two_sent_and_listed }
     ensures ended { run_out just_made (two_sends_and_queues ++ 10 ∷ []) ≡ two_sent_and_listed }
+{
+    the_sample_is_a_catalogue();
+}
+
+/// Tables open as the catalogue says: their rows whose amount isn't 0, and the sum.
+pub fn tables_are_listed()
+    ensures { run_out just_made three_tables ≡ three_shown }
 {
     the_sample_is_a_catalogue();
 }

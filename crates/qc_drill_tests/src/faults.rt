@@ -22,6 +22,13 @@ fn damaged_at(alloc: Global, at: u64) -> Result<String, Fail> {
     Ok(format!(in alloc; "damaged journal at {at}\n")?)
 }
 
+// Where the first step of Order's Place stands in the journal: behind the header, the gate, two lengths, the fact's tag
+// and the length of the catalogue's text.
+fn first_step() -> Result<u64, Fail> {
+    let (before, _) = sample().split_once("need stock").ok_or("no step")?;
+    Ok((before.len() as u64).saturating_add(30))
+}
+
 // How the listing ends on a site whose journal has this byte at this place.
 fn with_byte(alloc: Global, at: u64, byte: u8) -> Result<(Status, MemSink), Fail> {
     let mut site = site_with_a_message(alloc)?;
@@ -43,6 +50,8 @@ fn damage_is_told_where_it_is(rt: HostRuntime) -> Result<(), Fail> {
         (0, b'q', Status::NotMade, &b""[..]),
         (16, 0, Status::NoCatalogue, &b""[..]),
         (25, 0, Status::Damaged, catalogue.as_bytes()),
+        // a catalogue with a script that is none
+        (first_step()?, b'm', Status::Damaged, catalogue.as_bytes()),
         (gate, 0, Status::Done, LISTED_NONE),
         (
             gate.saturating_add(9),

@@ -25,9 +25,16 @@ fn a_text_makes_a_site_or_is_told_its_first_fault(rt: HostRuntime) -> Result<(),
         "out qty whole",
     )?;
     let phase_missing = changed(alloc, "[resource.till]", "phases = 7", "phases = 3")?;
-    let table: [(Vec<u8>, Status, &[u8]); 7] = [
+    let bad_script = changed(
+        alloc,
+        "[application.Orders.component.Order.method.Place]",
+        "sub stock[item] qty",
+        "sub stock[item]",
+    )?;
+    let table: [(Vec<u8>, Status, &[u8]); 8] = [
         (not_queueable, Status::BadCatalogue, NOT_QUEUEABLE),
         (phase_missing, Status::BadCatalogue, PHASE_MISSING),
+        (bad_script, Status::BadCatalogue, BAD_SCRIPT),
         (Vec::new(alloc), Status::BadCatalogue, BAD_APPLICATION),
         (
             vec![in alloc; b'#'; 1_048_577]?,

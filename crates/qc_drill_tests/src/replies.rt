@@ -7,7 +7,7 @@ use std::test::Fail;
 #[test]
 fn lines_have_their_replies(rt: HostRuntime) -> Result<(), Fail> {
     let alloc = rt.alloc();
-    let table: [(&[&[u8]], &[&[u8]]); 10] = [
+    let table: [(&[&[u8]], &[&[u8]]); 13] = [
         (&[], &[]),
         (&[SEND, LIST], &[SENT_1, LISTED_1]),
         (&[LIST_UNENDED], &[LISTED_NONE]),
@@ -25,6 +25,19 @@ fn lines_have_their_replies(rt: HostRuntime) -> Result<(), Fail> {
         (&[SEND_MOST, LIST], &[SENT_1, LISTED_1]),
         (&[SEND_TOO_MUCH, LIST], &[BAD_AMOUNT, LISTED_NONE]),
         (&[LIST_NOT_UTF8], &[NO_LINE]),
+        (
+            &[STOCK, SOLD, NO_TABLE, TILL_AS_TABLE],
+            &[STOCK_SHOWN, SOLD_SHOWN, UNKNOWN_TABLE, UNKNOWN_TABLE],
+        ),
+        // a table that is listed or refused moves the last moment, and nothing else
+        (
+            &[STOCK_AT_5, SEND, LIST],
+            &[STOCK_SHOWN, SENT_1, LISTED_1_AT_5],
+        ),
+        (
+            &[NO_TABLE_AT_5, SEND, STOCK, LIST],
+            &[UNKNOWN_TABLE, SENT_1, STOCK_SHOWN, LISTED_1_AT_5],
+        ),
     ];
     for (input, replies) in table {
         let mut site = new_site(alloc)?;

@@ -21,6 +21,25 @@ pub const SEND_TOO_MUCH: &[u8] =
 
 pub const LIST: &[u8] = b"{\"at\":0,\"do\":\"queues\",\"app\":\"Orders\"}\n";
 
+pub const STOCK: &[u8] = b"{\"at\":0,\"do\":\"table\",\"table\":\"stock\"}\n";
+
+pub const SOLD: &[u8] = b"{\"at\":0,\"do\":\"table\",\"table\":\"sold\"}\n";
+
+pub const NO_TABLE: &[u8] = b"{\"at\":0,\"do\":\"table\",\"table\":\"none\"}\n";
+
+// A resource is no table.
+pub const TILL_AS_TABLE: &[u8] = b"{\"at\":0,\"do\":\"table\",\"table\":\"till\"}\n";
+
+pub const STOCK_AT_5: &[u8] = b"{\"at\":5,\"do\":\"table\",\"table\":\"stock\"}\n";
+
+pub const NO_TABLE_AT_5: &[u8] = b"{\"at\":5,\"do\":\"table\",\"table\":\"none\"}\n";
+
+pub const STOCK_SHOWN: &[u8] = b"table stock \"bolt\" 10, \"nut\" 3; total 13\n";
+
+pub const SOLD_SHOWN: &[u8] = b"table sold; total 0\n";
+
+pub const UNKNOWN_TABLE: &[u8] = b"refused 17 UnknownTable\n";
+
 pub const LIST_UNENDED: &[u8] = b"{\"at\":0,\"do\":\"queues\",\"app\":\"Orders\"}";
 
 pub const LIST_NOT_UTF8: &[u8] = b"{\"at\":0,\"do\":\"queues\",\"app\":\"Orders\xff\"}\n";
@@ -78,6 +97,9 @@ pub const GROUP: [u8; 65] =
 
 pub const NOT_QUEUEABLE: &[u8] =
     b"bad catalogue: NotQueueable application.Orders.component.Order.method.Place\n";
+
+pub const BAD_SCRIPT: &[u8] =
+    b"bad catalogue: BadScript application.Orders.component.Order.method.Place.script 2\n";
 
 pub const PHASE_MISSING: &[u8] = b"bad catalogue: PhaseMissing till\n";
 

@@ -67,6 +67,7 @@ pub record Grown (hub new : Hub) (fact : Fact) (id at : ℕ) (r : Recording) (ol
   pub fits : is_fact fact ≡ true
   pub there : (s : State) → IsHubOf hub s → recording_fits s.history.catalogue r ≡ true
   pub catalogue : new.catalogue ≡ hub.catalogue
+  pub tables : new.tables ≡ hub.tables
   pub clients : new.clients ≡ hub.clients
   pub store : new.store.messages ≡ after_sent id r (names_exception hub.catalogue r) at hub.store.messages
   pub counted : new.facts ≡ hub.facts + 1
@@ -121,6 +122,7 @@ grown-hub hub new fact id at r old now s h g = subst (λ (f : Fact). IsHubOf new
         record {
           catalogue = g.catalogue ∙ h.catalogue;
           messages = g.store ∙ ap (λ (l : List Message). after_sent id r (names_exception hub.catalogue r) at l) h.messages ∙ ap (λ (c : Catalogue). after_sent id r (names_exception c r) at s.history.messages) h.catalogue;
+          tables = g.tables ∙ h.tables;
           counted = g.counted ∙ ap (λ (n : ℕ). n + 1) h.counted ∙ sym (length_push s.history.facts (Sent id at r));
           last = g.last ∙ h.last;
           clients = g.clients ∙ h.clients;

@@ -5,23 +5,26 @@ use Rattle.qc_base.specs.declared.message.Message.{Message}
 use Rattle.qc_base.specs.declared.queue.Waiting.{Waiting}
 use Rattle.qc_base.specs.Spelling.{spelled_recording}
 use Rattle.qc_base.specs.Messages.{waiting_queues, dead_ids, consumed_ids}
-use Rattle.std.proofs.Common.{◌≡◌, ◌∙◌, ◌≤◌, ℕ, Bool, cond, find, List, [], ◌∷◌, length, true, false, is_none, refl, sym, ap, subst, Option, Some, None, option_map, option_and_then, Ok, Err}
+use Rattle.std.proofs.Common.{◌≡◌, ◌∙◌, ◌≤◌, ℕ, Bool, cond, find, List, [], ◌∷◌, length, true, false, is_none, map, refl, sym, ap, subst, Option, Some, None, option_map, option_and_then, Ok, Err}
 use Rattle.std.specs.declared.result.Result.{Result}
 use Rattle.qc_base.specs.declared.recording.Recording.{Recording}
-use Rattle.qc_protocol.specs.declared.order.Act.TheVariants.{OpenSlot, CallSlot, CancelSlot, Queues}
+use Rattle.qc_protocol.specs.declared.order.Act.TheVariants.{OpenSlot, CallSlot, CancelSlot, Queues, Table}
 use Rattle.qc_protocol.specs.declared.order.RawCall.{RawCall}
 use Rattle.qc_protocol.specs.declared.reply.Refusal.{Refusal}
-use Rattle.qc_protocol.specs.declared.reply.Refusal.TheVariants.{UnknownApp}
-use Rattle.qc_protocol.specs.declared.reply.Reply.TheVariants.{Opened, Recorded, SentNothing, Cancelled, Refused, Queues as ShowQueues}
-use Rattle.qc_catalogue.specs.Lookup.{app_named}
+use Rattle.qc_protocol.specs.declared.reply.Refusal.TheVariants.{UnknownApp, UnknownTable}
+use Rattle.qc_protocol.specs.declared.reply.ShownRow.{ShownRow}
+use Rattle.qc_protocol.specs.declared.reply.Reply.TheVariants.{Opened, Recorded, SentNothing, Cancelled, Refused, Queues as ShowQueues, Table as ShowTable}
+use Rattle.qc_catalogue.specs.Lookup.{app_named, table_named}
 use Rattle.qc_catalogue.specs.Orderly.{is_orderly}
 use Rattle.qc_catalogue.specs.declared.catalogue.App.{App}
+use Rattle.qc_catalogue.specs.declared.catalogue.Opening.{Opening}
 use Rattle.qc_recorder.specs.Fits.{recording_fits}
 use Rattle.qc_recorder.specs.Recording.{begun, called, recorded, IsHeld}
 use Rattle.qc_recorder.proofs.Held.{begun-held, called-held, recorded-held}
 use Rattle.qc_machine.specs.History.{History, by_text}
 use Rattle.qc_machine.specs.Laws.{AreRecorded}
-use Rattle.qc_machine.specs.Listing.{queues_shown}
+use Rattle.qc_rows.specs.Tables.{TableRows, rows_shown, total_in}
+use Rattle.qc_machine.specs.Listing.{queues_shown, shown_row, table_shown}
 use Rattle.qc_machine.specs.Recorded.{if_refused}
 use Rattle.qc_machine.specs.Recording.{open_step, call_step, cancel_step}
 use Rattle.qc_machine.specs.Refuse.{refuse_if, first_some, is_of_line}
@@ -33,9 +36,9 @@ use Rattle.qc_machine.specs.Steps.{Step, stays}
 use Rattle.qc_machine.proofs.Histories.{orderly-history}
 use Rattle.qc_machine.proofs.Recorders.{reads-orderly, set-recorded}
 use Rattle.qc_machine.proofs.Refusals.{first-is, first-none, first-order, none-order, slot-order, busy-order, idle-order, begun-order, called-order}
-use Rattle.qc_machine.proofs.Steps.{step-refused-by, step-taken, refusal-open, refusal-call, refusal-cancel, refusal-queues}
+use Rattle.qc_machine.proofs.Steps.{step-refused-by, step-taken, refusal-open, refusal-call, refusal-cancel, refusal-queues, refusal-table}
 use Rattle.qc_hub.specs.declared.hub.Hub.{Hub}
-use Rattle.qc_hub.specs.Calls.{opening, calling, committing, cancelling, sending, listing}
+use Rattle.qc_hub.specs.Calls.{opening, calling, committing, cancelling, sending, listing, showing}
 use Rattle.qc_hub.specs.Rooms.{full_for}
 use Rattle.qc_hub.specs.Stands.{IsHubOf}
 use Rattle.qc_hub.proofs.Later.{later_state}
@@ -245,3 +248,25 @@ module _ (hub : Hub) (s : State) (h : IsHubOf hub s) (at : ℕ) (app : List ℕ)
   list-known a is =
       let here = ap (λ c. app_named app c.apps) (sym h.catalogue) ∙ is in
       step-taken s at (Queues app) (refusal-queues (at_moment at s) app ∙ ap (λ (o : Option App). first_some (refuse_if (is_none o) UnknownApp ∷ [])) here)
+
+-- a table
+
+pub found-table : (tables : List Opening) (name : List ℕ) (t : Opening) → table_named name tables ≡ Some t → t.name ≡ name
+found-table tables name t e = (bytes_eq-Decides t.name name).0 (found-is (λ (x : Opening). bytes_eq x.name name) tables t e)
+
+-- what is shown under the table's own name
+pub table-is : (tables now : List TableRows) (table name : List ℕ) (shown : List ShownRow) (rows : List (List ℕ × ℕ)) (total : ℕ) → name ≡ table → tables ≡ now → shown ≡ map shown_row rows → rows ≡ rows_shown name tables → total ≡ total_in name tables
+    → table_shown now table ≡ ShowTable name shown total
+table-is tables now table name shown rows total named same s r t =
+    ap (λ (l : List TableRows). table_shown l table) (sym same) ∙ ap (table_shown tables) (sym named) ∙ (λ i. ShowTable name ((sym (s ∙ ap (map shown_row) r)) i) ((sym t) i))
+
+module _ (hub : Hub) (s : State) (h : IsHubOf hub s) (at : ℕ) (table : List ℕ) where
+  pub show-unknown : table_named table hub.catalogue.tables ≡ None → step s (showing at table) ≡ stays (at_moment at s) (Refused UnknownTable)
+  show-unknown is =
+      let here = ap (λ c. table_named table c.tables) (sym h.catalogue) ∙ is in
+      step-refused-by s at (Table table) UnknownTable (refusal-table (at_moment at s) table ∙ ap (λ (o : Option Opening). first_some (refuse_if (is_none o) UnknownTable ∷ [])) here) refl
+
+  pub show-known : (t : Opening) → table_named table hub.catalogue.tables ≡ Some t → step s (showing at table) ≡ stays (at_moment at s) (table_shown s.history.tables table)
+  show-known t is =
+      let here = ap (λ c. table_named table c.tables) (sym h.catalogue) ∙ is in
+      step-taken s at (Table table) (refusal-table (at_moment at s) table ∙ ap (λ (o : Option Opening). first_some (refuse_if (is_none o) UnknownTable ∷ [])) here)

@@ -99,7 +99,7 @@ module _ (at : ℕ) (by : State → Step) (hub new : Hub) where
       later : Later hub new at
       later =
           subst (λ (x : Hub). Later hub x at) (sym is)
-          (record { catalogue = refl; store = refl; facts = refl; spare = hub.journal.spare; journal = refl; log = refl; last = refl; limits = refl; in_fault = refl })
+          (record { catalogue = refl; store = refl; tables = refl; facts = refl; spare = hub.journal.spare; journal = refl; log = refl; last = refl; limits = refl; in_fault = refl })
 
   -- with the same ones
   pub reply-in-memory : (reply : Reply) → new ≡ record hub { last = max at hub.last } → ((s : State) → IsHubOf hub s → by s ≡ stays (at_moment at s) reply) → StepsInMemory at by (Ok reply) hub new

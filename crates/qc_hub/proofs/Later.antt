@@ -16,6 +16,7 @@ use Rattle.qc_hub.specs.Calls.{IsUnused, StandsSound, HubStands, IsReady}
 pub record Later (hub new : Hub) (at : ℕ) : Type 0 where
   pub catalogue : new.catalogue ≡ hub.catalogue
   pub store : new.store.messages ≡ hub.store.messages
+  pub tables : new.tables ≡ hub.tables
   pub facts : new.facts ≡ hub.facts
   pub spare : ℕ
   pub journal : new.journal ≡ record hub.journal { spare = spare }
@@ -29,6 +30,7 @@ pub later-clients : (hub new : Hub) (at : ℕ) (clients : List (Option Recording
 later-clients hub new at clients later = record {
   catalogue = later.catalogue;
   store = later.store;
+  tables = later.tables;
   facts = later.facts;
   spare = later.spare;
   journal = later.journal;
@@ -46,6 +48,7 @@ pub later-in : (hub new : Hub) (at : ℕ) (s : State) (clients : List (Option Re
 later-in hub new at s clients later is all h = record {
   catalogue = later.catalogue ∙ h.catalogue;
   messages = later.store ∙ h.messages;
+  tables = later.tables ∙ h.tables;
   counted = later.facts ∙ h.counted;
   last = later.last ∙ ap (λ (n : ℕ). max at n) h.last;
   clients = is;
@@ -78,7 +81,7 @@ moved-limits hub new at moved = ⊎_elim (λ e. ap (λ (x : Hub). x.limits) e) (
 pub moved-at : (hub new : Hub) (at : ℕ) → new ≡ record hub { last = max at hub.last } → Since hub new at
 moved-at hub new at e =
     subst (λ (x : Hub). Since hub x at) (sym e)
-    (record { later = record { catalogue = refl; store = refl; facts = refl; spare = hub.journal.spare; journal = refl; log = refl; last = refl; limits = refl; in_fault = refl }; clients = refl })
+    (record { later = record { catalogue = refl; store = refl; tables = refl; facts = refl; spare = hub.journal.spare; journal = refl; log = refl; last = refl; limits = refl; in_fault = refl }; clients = refl })
 
 pub not-both : (b : Bool) → b ≡ false → b ≡ true → ⊥
 not-both true e t = cc

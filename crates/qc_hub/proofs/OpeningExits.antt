@@ -67,6 +67,7 @@ module _ (limits : Limits) (shown mid now : Image) (headers : HasHeaders shown) 
   hub-of = subst (λ (h : Hub). IsHubOf h read_state) (sym kept) (record {
     catalogue = r.has.catalogue;
     messages = r.has.messages;
+    tables = r.has.tables;
     counted = r.has.counted ∙ ap length (sym all_facts);
     last = r.has.last;
     clients = idle;

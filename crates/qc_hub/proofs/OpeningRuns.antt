@@ -37,7 +37,7 @@ module _ {S : Type 0} (g : Ghosts S) where
     pub journal : hub.journal ≡ record first.journal { place = hub.journal.place }
     pub numbered : AreNumbered hub.store.messages
     pub few : hub.facts ≤ hub.journal.place
-    pub kept : hub ≡ record first { journal = hub.journal; catalogue = hub.catalogue; store = hub.store; facts = hub.facts; last = hub.last }
+    pub kept : hub ≡ record first { journal = hub.journal; catalogue = hub.catalogue; store = hub.store; tables = hub.tables; facts = hub.facts; last = hub.last }
     pub faults : g.faults begun ≤ g.faults site
     pub still : g.told → g.shown site ≡ g.shown begun
     pub left : g.told → LeavesOnly g.moment g.left_since begun site (After Journal (SameFrom first.journal.start) (g.may_leave begun))
@@ -67,10 +67,10 @@ module _ {S : Type 0} (g : Ghosts S) where
         keeps_on g (log_of first.journal) failed then begun site after to back counts so_far.still so_far.faults so_far.left
         (subst (λ (n : ℕ). KeepsGroups g (log_of (record hub.journal { start = n })) then site after) same_start keeps)
 
-    run-kept : (new : Hub) → new ≡ record (at_place hub journal) { catalogue = new.catalogue; store = new.store; facts = new.facts; last = new.last } → new ≡ record first { journal = new.journal; catalogue = new.catalogue; store = new.store; facts = new.facts; last = new.last }
+    run-kept : (new : Hub) → new ≡ record (at_place hub journal) { catalogue = new.catalogue; store = new.store; tables = new.tables; facts = new.facts; last = new.last } → new ≡ record first { journal = new.journal; catalogue = new.catalogue; store = new.store; tables = new.tables; facts = new.facts; last = new.last }
     run-kept new is =
-        is ∙ ap (λ (h : Hub). let n : Hub = record h { journal = journal; catalogue = new.catalogue; store = new.store; facts = new.facts; last = new.last } in n) so_far.kept
-        ∙ ap (λ (j : JournalView). let n : Hub = record first { journal = j; catalogue = new.catalogue; store = new.store; facts = new.facts; last = new.last } in n) (sym (ap (λ (h : Hub). h.journal) is))
+        is ∙ ap (λ (h : Hub). let n : Hub = record h { journal = journal; catalogue = new.catalogue; store = new.store; tables = new.tables; facts = new.facts; last = new.last } in n) so_far.kept
+        ∙ ap (λ (j : JournalView). let n : Hub = record first { journal = j; catalogue = new.catalogue; store = new.store; tables = new.tables; facts = new.facts; last = new.last } in n) (sym (ap (λ (h : Hub). h.journal) is))
 
     -- the journal couldn't be read on
     pub run-stopped : (e : LogError) → FindsFact g (Err e) hub.journal site journal after → ReadsOn g {A = Option (ℕ × Fact)} (DamagedFact (g.shown site).journal hub.journal.place) (Err e) (log_of hub.journal) site (log_of journal) after
@@ -96,7 +96,7 @@ module _ {S : Type 0} (g : Ghosts S) where
     -- a fact was found
     module _ (at : ℕ) (fact : Fact) (finds : FindsFact g (Ok (Some (at, fact))) hub.journal site journal after) (reads : ReadsOn g {A = Option (ℕ × Fact)} (DamagedFact (g.shown site).journal hub.journal.place) (Ok (Some (at, fact))) (log_of hub.journal) site (log_of journal) after) (new : Hub) where
       mid_facts : (facts : List Fact) → HasFacts facts hub → HasFacts facts (at_place hub journal)
-      mid_facts facts h = record { catalogue = h.catalogue; messages = h.messages; counted = h.counted; last = h.last }
+      mid_facts facts h = record { catalogue = h.catalogue; messages = h.messages; tables = h.tables; counted = h.counted; last = h.last }
 
       next : g.told → NextFact (g.shown begun).journal hub.journal journal at fact
       next told = subst (λ (i : Image). NextFact i.journal hub.journal journal at fact) (so_far.still told) (finds.fact told)
@@ -169,7 +169,7 @@ module _ {S : Type 0} (g : Ghosts S) where
               let end : NoFact before.journal now.journal hub.journal journal = subst (λ (i : Image). NoFact i.journal now.journal hub.journal journal) (so_far.still told) (finds.end told) in
               let others : now ≡ with_bytes Journal now.journal before = step_others Journal (SameFrom first.journal.start) before now (keeps.shown told (λ is. absurd cc)) in
               read-end before now hub (at_place hub journal) (same_start ∙ so_far.whole) inside was end
-              (record { catalogue = was.has.catalogue; messages = was.has.messages; counted = was.has.counted; last = was.has.last }) others;
+              (record { catalogue = was.has.catalogue; messages = was.has.messages; tables = was.has.tables; counted = was.has.counted; last = was.has.last }) others;
           damaged = λ told d is. absurd cc;
           not_made = λ is. absurd cc;
           not_empty = λ is. absurd cc;

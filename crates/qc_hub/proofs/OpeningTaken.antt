@@ -12,6 +12,7 @@ use Rattle.qc_catalogue.specs.declared.error.CatalogueError.{CatalogueError}
 use Rattle.qc_catalogue.specs.declared.error.CatalogueError.TheVariants.{TextTooLong, NotToml, BadField, UnknownName, PhaseMissing, NotQueueable, BadScript, NoMemory as OutOfMemory}
 use Rattle.qc_catalogue.specs.Catalogue.{catalogue_of}
 use Rattle.qc_recorder.specs.Fits.{recording_fits}
+use Rattle.qc_rows.specs.Tables.{TableRows, opened_tables}
 use Rattle.qc_machine.specs.declared.error.OpenError.TheVariants.{Damaged as damaged, NoMemory as no_memory}
 use Rattle.qc_machine.specs.History.{History, by_text, no_facts, no_catalogue, names_exception, history_of, goes_on}
 use Rattle.qc_machine.proofs.Histories.{after-push, facts-of}
@@ -35,13 +36,14 @@ false-and false b e = refl
 
 -- the first fact, a catalogue
 
-module _ (hub new : Hub) (text : List ℕ) (c : Catalogue) (reads : by_text text ≡ Some c) (first : hub.facts ≡ 0) (catalogue : new.catalogue ≡ c) (messages : new.store.messages ≡ hub.store.messages) (one : new.facts ≡ 1) (last : new.last ≡ hub.last) where
+module _ (hub new : Hub) (text : List ℕ) (c : Catalogue) (reads : by_text text ≡ Some c) (first : hub.facts ≡ 0) (catalogue : new.catalogue ≡ c) (messages : new.store.messages ≡ hub.store.messages) (tables : new.tables ≡ opened_tables c) (one : new.facts ≡ 1) (last : new.last ≡ hub.last) where
   in-force : HasFacts [] hub → (goes_on by_text no_facts (InForce text) ≡ true) × HasFacts (InForce text ∷ []) new
   in-force h = (
     ap (λ (o : Option Catalogue). is_some o) reads,
     record {
       catalogue = catalogue ∙ sym (ap (λ (o : Option Catalogue). unwrap_or o no_catalogue) reads);
       messages = messages ∙ h.messages;
+      tables = tables ∙ sym (ap (λ (o : Option Catalogue). opened_tables (unwrap_or o no_catalogue)) reads);
       counted = one;
       last = last ∙ h.last;
     },
@@ -87,8 +89,8 @@ module _ (hub : Hub) (facts : List Fact) (h : HasFacts facts hub) (id at : ℕ) 
       let count : length (history_of by_text facts).facts ≡ hub.facts = ap length (facts-of by_text no_facts facts) ∙ sym h.counted in
       λ i. (leb 1 (count i) && leb ((sym h.last) i) at) && (eqb id (length ((sym h.messages) i) + 1) && recording_fits ((sym h.catalogue) i) r)
 
-  pub sent-has : (new : Hub) → new.catalogue ≡ hub.catalogue → new.store.messages ≡ after_sent id r (names_exception hub.catalogue r) at hub.store.messages → new.facts ≡ hub.facts + 1 → new.last ≡ at → HasFacts (facts ++ Sent id at r ∷ []) new
-  sent-has new catalogue messages counted last =
+  pub sent-has : (new : Hub) → new.catalogue ≡ hub.catalogue → new.tables ≡ hub.tables → new.store.messages ≡ after_sent id r (names_exception hub.catalogue r) at hub.store.messages → new.facts ≡ hub.facts + 1 → new.last ≡ at → HasFacts (facts ++ Sent id at r ∷ []) new
+  sent-has new catalogue tables messages counted last =
       let pushed = after-push by_text no_facts facts (Sent id at r) in
       record {
         catalogue = catalogue ∙ h.catalogue ∙ sym (ap (λ (x : History). x.catalogue) pushed);
@@ -96,6 +98,7 @@ module _ (hub : Hub) (facts : List Fact) (h : HasFacts facts hub) (id at : ℕ) 
             ∙ ap (λ (l : List Message). after_sent id r (names_exception hub.catalogue r) at l) h.messages
             ∙ ap (λ (c : Catalogue). after_sent id r (names_exception c r) at (history_of by_text facts).messages) h.catalogue
             ∙ sym (ap (λ (x : History). x.messages) pushed);
+        tables = tables ∙ h.tables ∙ sym (ap (λ (x : History). x.tables) pushed);
         counted = counted ∙ ap (λ (n : ℕ). n + 1) h.counted ∙ sym (length_push facts (Sent id at r));
         last = last ∙ sym (ap (λ (x : History). x.last) pushed);
       }
@@ -118,10 +121,10 @@ text-stops at text hub (NotQueueable path) refused = refuses at (InForce text) h
 text-stops at text hub (BadScript path line) refused = refuses at (InForce text) hub (λ facts h. text-refused text (text-none text _ (refused (λ is. cc))) facts)
 text-stops at text hub OutOfMemory refused = starves at (InForce text) hub
 
-pub takes-first : (at : ℕ) (text : List ℕ) (c : Catalogue) (hub : Hub) → catalogue_of text ≡ Ok c → hub.facts ≡ 0 → AreNumbered hub.store.messages → TakesFact at (InForce text) (Ok tt) hub (record hub { catalogue = c; facts = 1 })
-takes-first at text c hub reads first numbered =
-    let new : Hub = record hub { catalogue = c; facts = 1 } in
-    record { taken = first-taken hub new text c (text-some text c reads) first refl refl refl refl; refused = tt; counted = omega (arith, first); numbered = numbered; kept = refl }
+pub takes-first : (at : ℕ) (text : List ℕ) (c : Catalogue) (tables : List TableRows) (hub : Hub) → catalogue_of text ≡ Ok c → tables ≡ opened_tables c → hub.facts ≡ 0 → AreNumbered hub.store.messages → TakesFact at (InForce text) (Ok tt) hub (record hub { catalogue = c; tables = tables; facts = 1 })
+takes-first at text c tables hub reads opened first numbered =
+    let new : Hub = record hub { catalogue = c; tables = tables; facts = 1 } in
+    record { taken = first-taken hub new text c (text-some text c reads) first refl refl opened refl refl; refused = tt; counted = omega (arith, first); numbered = numbered; kept = refl }
 
 pub takes-sent : (at id moment : ℕ) (r : Recording) (final_class : Bool) (hub new : Hub) → ((leb 1 hub.facts && leb hub.last moment) && eqb id (length hub.store.messages + 1)) ≡ true → recording_fits hub.catalogue r ≡ true → final_class ≡ names_exception hub.catalogue r → new.store.messages ≡ after_sent id r final_class moment hub.store.messages
     → AreNumbered hub.store.messages → new ≡ record hub { store = new.store; facts = hub.facts + 1; last = moment } → TakesFact at (Sent id moment r) (Ok tt) hub new
@@ -130,15 +133,16 @@ takes-sent at id moment r final_class hub new goes fits class messages numbered 
     let counted : new.facts ≡ hub.facts + 1 = ap (λ (h : Hub). h.facts) is in
     let last : new.last ≡ moment = ap (λ (h : Hub). h.last) is in
     let catalogue : new.catalogue ≡ hub.catalogue = ap (λ (h : Hub). h.catalogue) is in
+    let tables : new.tables ≡ hub.tables = ap (λ (h : Hub). h.tables) is in
     record {
       taken = λ facts h. (
         sent-goes hub facts h id moment r ∙ fitting (leb 1 hub.facts && leb hub.last moment) _ _ goes fits,
-        sent-has hub facts h id moment r new catalogue (messages ∙ ap (λ (b : Bool). after_sent id r b moment hub.store.messages) class) counted last,
+        sent-has hub facts h id moment r new catalogue tables (messages ∙ ap (λ (b : Bool). after_sent id r b moment hub.store.messages) class) counted last,
       );
       refused = tt;
       counted = counted;
       numbered = subst AreNumbered (sym messages) (numbered-push hub.store.messages id moment r final_class numbered next);
-      kept = is ∙ (λ i. record hub { catalogue = (sym catalogue) i; store = new.store; facts = (sym counted) i; last = (sym last) i });
+      kept = is ∙ (λ i. record hub { catalogue = (sym catalogue) i; store = new.store; tables = (sym tables) i; facts = (sym counted) i; last = (sym last) i });
     }
 
 pub numbered-none : AreNumbered []

@@ -46,6 +46,7 @@ room-later hub mid at last clients moment same = (
   record {
     catalogue = ap (λ (x : Hub). x.catalogue) same.others;
     store = same.messages;
+    tables = ap (λ (x : Hub). x.tables) same.others;
     facts = ap (λ (x : Hub). x.facts) same.others;
     spare = mid.journal.spare;
     journal = same.journal;

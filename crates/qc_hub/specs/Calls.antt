@@ -2,7 +2,7 @@
 use Rattle.std.specs.Prelude.{◌≡◌, ◌⊎◌, ℕ, [], ◌∷◌, max, List, true, false, IfOk, IfErr, OnOk, OnErr, IsErr, IsErrOf, Ok, Err}
 use Rattle.std.specs.declared.result.Result.{Result}
 use Rattle.qc_protocol.specs.declared.order.Order.{Order}
-use Rattle.qc_protocol.specs.declared.order.Act.TheVariants.{OpenSlot, CallSlot, CommitSlot, CancelSlot, Send, Queues}
+use Rattle.qc_protocol.specs.declared.order.Act.TheVariants.{OpenSlot, CallSlot, CommitSlot, CancelSlot, Send, Queues, Table}
 use Rattle.qc_protocol.specs.declared.order.RawCall.{RawCall}
 use Rattle.qc_protocol.specs.declared.reply.Reply.{Reply}
 use Rattle.qc_protocol.specs.declared.reply.Reply.TheVariants.{Refused as ReplyRefused}
@@ -51,6 +51,9 @@ sending at app component calls = record { at = at; act = Send app component call
 
 abbrev pub listing : ℕ → List ℕ → Order
 listing at app = record { at = at; act = Queues app }
+
+abbrev pub showing : ℕ → List ℕ → Order
+showing at table = record { at = at; act = Table table }
 
 -- a log of compensations that was read to its end, which is its start
 pub record IsUnused (log : LogView) : Type 0 where

@@ -56,6 +56,7 @@ in_catalogue at _ = damaged (damage_at at)
 pub record HasFacts (facts : List Fact) (hub : Hub) : Type 0 where
   pub catalogue : hub.catalogue ≡ (history_of by_text facts).catalogue
   pub messages : hub.store.messages ≡ (history_of by_text facts).messages
+  pub tables : hub.tables ≡ (history_of by_text facts).tables
   pub counted : hub.facts ≡ length facts
   pub last : hub.last ≡ (history_of by_text facts).last
 
@@ -86,7 +87,7 @@ pub record TakesFact (at : ℕ) (fact : Fact) (result : Result (Unit {0}) OpenEr
   pub refused : OnErr result ((result ≡ Err no_memory) ⊎ IsRefused at fact result hub)
   pub counted : OnOk result (new.facts ≡ hub.facts + 1)
   pub numbered : OnOk result (AreNumbered new.store.messages)
-  pub kept : new ≡ record hub { catalogue = new.catalogue; store = new.store; facts = new.facts; last = new.last }
+  pub kept : new ≡ record hub { catalogue = new.catalogue; store = new.store; tables = new.tables; facts = new.facts; last = new.last }
 
 -- a log was read to its end, where its gate is closed, and stands there
 pub record HasEnded (file now : List ℕ) (place size : ℕ) : Type 0 where
@@ -123,7 +124,7 @@ module _ {S : Type 0} (g : Ghosts S) where
 
   -- A call that reads the journal to its end.
   pub record ReadsFacts (result : Result (Unit {0}) OpenError) (hub : Hub) (site : S) (new : Hub) (after : S) : Type 0 where
-    pub kept : new ≡ record hub { journal = new.journal; catalogue = new.catalogue; store = new.store; facts = new.facts; last = new.last }
+    pub kept : new ≡ record hub { journal = new.journal; catalogue = new.catalogue; store = new.store; tables = new.tables; facts = new.facts; last = new.last }
     pub journal : OnOk result (new.journal ≡ record hub.journal { place = new.journal.place; length = new.journal.length; ended = true })
     pub stands : OnOk result (LogStands g (log_of new.journal) after)
     pub numbered : OnOk result (AreNumbered new.store.messages)

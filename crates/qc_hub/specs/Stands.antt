@@ -18,6 +18,7 @@ use Rattle.qc_hub.specs.declared.hub.Hub.{Hub}
 pub record IsHubOf (hub : Hub) (s : State) : Type 0 where
   pub catalogue : hub.catalogue ≡ s.history.catalogue
   pub messages : hub.store.messages ≡ s.history.messages
+  pub tables : hub.tables ≡ s.history.tables
   pub counted : hub.facts ≡ length s.history.facts
   pub last : hub.last ≡ s.last
   pub clients : hub.clients ≡ s.clients

@@ -12,18 +12,20 @@ use qc_frame::Log;
 use qc_journal::Journal;
 use qc_machine::Limits;
 use qc_protocol::{Act, Order, Refusal, Reply};
+use qc_rows::Tables;
 use qc_site::Site;
 use qc_store::Store;
 use std::alloc::Global;
 
-/// The service over one site: its logs, the catalogue and the messages as the journal's facts settle them, what the
-/// clients' recorders hold, and the last moment seen.
+/// The service over one site: its logs, the catalogue, the messages and the tables as the journal's facts settle them,
+/// what the clients' recorders hold, and the last moment seen.
 #[derive(Drop)]
 pub struct Hub {
     pub(crate) journal: Journal,
     pub(crate) log: Log,
     pub(crate) catalogue: Catalogue,
     pub(crate) store: Store,
+    pub(crate) tables: Tables,
     pub(crate) clients: Clients,
     pub(crate) facts: u64,
     pub(crate) last: Moment,
@@ -98,6 +100,7 @@ impl Hub {
                 calls.as_slice(),
             ),
             Act::Queues(app) => self.queues(alloc, at, app.as_slice()),
+            Act::Table(table) => self.table(alloc, at, table.as_slice()),
             _ => Ok(Reply::Refused(Refusal::NotBuilt)),
         }
     }

@@ -6,7 +6,7 @@
 //!
 //! The steps are those of `qc_machine`. `specs/Stands.antt` says what the fields of a hub mean there, and
 //! `specs/Calls.antt` what each call is given and what it leaves, over any site and any step. `changes` is the only code
-//! that changes the site; each family of orders has a module (`recording`, `sending`, `listing`). `clients` has the
+//! that changes the site; each family of orders has a module (`recording`, `sending`, `listing`, `table`). `clients` has the
 //! recorders.
 #![tactic(auto)]
 
@@ -20,6 +20,7 @@ mod listing;
 mod opening;
 mod recording;
 mod sending;
+mod table;
 
 pub use error::HubError;
 pub use hub::Hub;

@@ -18,6 +18,7 @@ use qc_frame::{Damage, Log, LogError};
 use qc_journal::Journal;
 use qc_machine::{Limits, OpenError};
 use qc_recorder::fits;
+use qc_rows::Tables;
 use qc_site::{Site, SiteFile};
 use qc_store::Store;
 use std::alloc::Global;
@@ -128,6 +129,7 @@ impl Hub {
             log,
             catalogue: empty_catalogue(alloc),
             store,
+            tables: Tables::none(alloc),
             clients,
             facts: 0,
             last: Moment::clamp(0),
@@ -196,7 +198,11 @@ impl Hub {
             Ok(catalogue) => catalogue,
             Err(error) => return Err(catalogue_error(at, error)),
         };
+        let Ok(tables) = Tables::make(alloc, &catalogue) else {
+            return Err(OpenError::NoMemory);
+        };
         self.catalogue = catalogue;
+        self.tables = tables;
         self.facts = 1;
         Ok(())
     }

@@ -15,7 +15,7 @@ use Rattle.qc_catalogue.specs.declared.catalogue.App.{App}
 use Rattle.qc_catalogue.specs.declared.catalogue.Catalogue.{Catalogue}
 use Rattle.qc_catalogue.specs.declared.catalogue.Component.{Component}
 use Rattle.qc_catalogue.specs.declared.catalogue.Method.{Method}
-use Rattle.qc_catalogue.specs.declared.script.Param.{Param}
+use Rattle.qc_script.specs.declared.names.Param.{Param}
 use Rattle.qc_recorder.specs.Fits.{and_then, component_of_app, component_in, argument, arguments, call_by, call_taken}
 use Rattle.qc_recorder.specs.Recording.{no_calls, begun, with_call, if_short, if_few, add_call, add_calls, methods_for, called, recorded}
 use Rattle.qc_machine.specs.Recorded.{if_refused}

@@ -8,7 +8,7 @@ use Rattle.qc_protocol.specs.declared.reply.Refusal.{Refusal}
 use Rattle.qc_protocol.specs.declared.reply.Refusal.TheVariants.{NotBuilt}
 use Rattle.qc_protocol.specs.declared.reply.Reply.TheVariants.{Refused}
 use Rattle.qc_recorder.specs.Recording.{begun, recorded}
-use Rattle.qc_machine.specs.Names.{app_unknown}
+use Rattle.qc_machine.specs.Names.{app_unknown, table_unknown}
 use Rattle.qc_machine.specs.Recorded.{called_by, if_called, if_recorded, if_refused}
 use Rattle.qc_machine.specs.Refuse.{first_some, is_of_line}
 use Rattle.qc_machine.specs.Sending.{no_room_for}
@@ -54,6 +54,10 @@ pub refusal-queues : (s : State) (app : List ℕ) → refusal s (Queues app) ≡
 unfolding refusal
 refusal-queues s app = refl
 
+pub refusal-table : (s : State) (name : List ℕ) → refusal s (Table name) ≡ first_some (table_unknown s.history.catalogue name ∷ [])
+unfolding refusal
+refusal-table s name = refl
+
 -- each other order isn't built
 
 -- the order is none of those that are there
@@ -64,6 +68,7 @@ pub record IsOther (act : Act) : Type 0 where
   pub cancel : (n : ℕ) → act ≡ CancelSlot n → ⊥
   pub send : (app component : List ℕ) (calls : List RawCall) → act ≡ Send app component calls → ⊥
   pub queues : (app : List ℕ) → act ≡ Queues app → ⊥
+  pub table : (name : List ℕ) → act ≡ Table name → ⊥
 
 other-act : (s : State) (at : ℕ) (act : Act) → IsOther act → answer s (at_moment at s) act (refusal (at_moment at s) act) ≡ stays s (Refused NotBuilt)
 unfolding refusal
@@ -80,7 +85,7 @@ other-act s at (Phase n) is = refl
 other-act s at (Play n app) is = refl
 other-act s at (Move from to batch) is = refl
 other-act s at (Switch app on) is = refl
-other-act s at (Table name) is = refl
+other-act s at (Table name) is = absurd (is.table name refl)
 other-act s at (Outside name) is = refl
 
 pub step-other : (s : State) (order : Order) → IsOther order.act → step s order ≡ stays s (Refused NotBuilt)

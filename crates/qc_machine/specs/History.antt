@@ -13,6 +13,7 @@ use Rattle.qc_catalogue.specs.declared.error.CatalogueError.{CatalogueError}
 use Rattle.qc_catalogue.specs.Catalogue.{catalogue_of}
 use Rattle.qc_catalogue.specs.Lookup.{app_named, component_named}
 use Rattle.qc_recorder.specs.Fits.{recording_fits}
+use Rattle.qc_rows.specs.Tables.{TableRows, opened_tables}
 
 -- how a catalogue's text is read
 abbrev pub Reader : Type 0
@@ -41,21 +42,24 @@ pub record History : Type 0 where
   pub catalogue : Catalogue
   -- in order of ids
   pub messages : List Message
+  -- the tables with the amounts of their rows
+  pub tables : List TableRows
   -- the moment of the last fact that has one, or 0
   pub last : ℕ
 
 abbrev pub no_facts : History
-no_facts = record { facts = []; catalogue = no_catalogue; messages = []; last = 0 }
+no_facts = record { facts = []; catalogue = no_catalogue; messages = []; tables = []; last = 0 }
 
--- a catalogue comes into force
+-- a catalogue comes into force, and opens the tables
 abbrev pub under_catalogue : Catalogue → History → History
-under_catalogue c h = record h { catalogue = c; messages = map (λ (m : Message). record m { final_class = names_exception c m.recording }) h.messages }
+under_catalogue c h = record h { catalogue = c; messages = map (λ (m : Message). record m { final_class = names_exception c m.recording }) h.messages; tables = opened_tables c }
 
 abbrev pub under_text : Reader → Fact → History → History
 under_text read (InForce text) h = under_catalogue (unwrap_or (read text) no_catalogue) h
 under_text read _ h = h
 
--- what a fact changes beside the list of facts, but for a catalogue
+-- What a fact changes beside the list of facts, but for a catalogue. Once attempts play scripts, Played changes the amounts
+-- of its rows here; today no history has one.
 abbrev pub settle_fact : Fact → History → History
 settle_fact (InForce text) h = h
 settle_fact (Sent id at r) h = record h { messages = after_sent id r (names_exception h.catalogue r) at h.messages; last = at }

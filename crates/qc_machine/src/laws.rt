@@ -1,9 +1,12 @@
 // What holds of every step. Nothing runs here: the contracts are the laws.
-ghost use Rattle.std.specs.Prelude.{◌≡◌, ◌≤◌, if◌then◌else◌};
+ghost use Rattle.std.specs.Prelude.{◌≡◌, ◌≤◌, ℕ, List, true, if◌then◌else◌};
+ghost use Rattle.qc_base.specs.declared.fact.Fact.{Fact};
+ghost use Rattle.qc_catalogue.specs.Laws.{keys_ascend};
 ghost use Rattle.qc_protocol.specs.declared.order.Order.{Order};
 ghost use Rattle.qc_protocol.specs.declared.reply.Refusal.{Refusal};
 ghost use Rattle.qc_protocol.specs.declared.reply.Reply.TheVariants.{Refused};
-ghost use Rattle.qc_machine.specs.History.{Reader};
+ghost use Rattle.qc_rows.specs.Tables.{rows_shown};
+ghost use Rattle.qc_machine.specs.History.{Reader, by_text, history_of};
 ghost use Rattle.qc_machine.specs.Laws.{GoesOn, IsInRange, IsSettled, ReadsOrderly};
 ghost use Rattle.qc_machine.specs.Refuse.{is_of_line};
 ghost use Rattle.qc_machine.specs.State.{State, at_moment};
@@ -23,4 +26,9 @@ pub fn steps_keep_the_rules()
 /// What recorders hold may be sent (docs/RULES.md, "Histories").
 pub fn steps_keep_histories_legal()
     ensures { (read : Reader) (s x : State) (order : Order) → ReadsOrderly read → IsInRange order s → IsSettled read s → IsBetween s (step s order) x → IsSettled read x }
+{}
+
+/// What is listed of a table stands in byte order of keys, whatever facts led there (docs/RULES.md, "Rows").
+pub fn tables_are_listed_in_order()
+    ensures { (facts : List Fact) (name : List ℕ) → keys_ascend (rows_shown name (history_of by_text facts).tables) ≡ true }
 {}

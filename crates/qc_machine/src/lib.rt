@@ -9,7 +9,7 @@
 //! - `Opening`: where the files of a site stop being a history.
 //!
 //! What holds of every step stands on `steps_keep_the_rules` and `steps_keep_histories_legal` (docs/RULES.md, "The
-//! machine").
+//! machine"), and that listings of tables stand in order on `tables_are_listed_in_order`.
 #![tactic(auto)]
 
 mod error;
@@ -17,5 +17,5 @@ mod laws;
 mod limits;
 
 pub use error::OpenError;
-pub use laws::{steps_keep_histories_legal, steps_keep_the_rules};
+pub use laws::{steps_keep_histories_legal, steps_keep_the_rules, tables_are_listed_in_order};
 pub use limits::Limits;

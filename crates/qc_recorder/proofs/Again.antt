@@ -12,9 +12,9 @@ use Rattle.qc_protocol.specs.declared.reply.Refusal.{Refusal}
 use Rattle.qc_protocol.specs.declared.reply.Refusal.TheVariants.{UnknownMethod, BadArguments}
 use Rattle.qc_catalogue.specs.Lookup.{method_of}
 use Rattle.qc_catalogue.specs.declared.catalogue.Method.{Method}
-use Rattle.qc_catalogue.specs.declared.script.Param.{Param}
-use Rattle.qc_catalogue.specs.declared.script.ParamKind.{ParamKind}
-use Rattle.qc_catalogue.specs.declared.script.ParamKind.TheVariants.{Text, Whole}
+use Rattle.qc_script.specs.declared.names.Param.{Param}
+use Rattle.qc_script.specs.declared.names.ParamKind.{ParamKind}
+use Rattle.qc_script.specs.declared.names.ParamKind.TheVariants.{Text, Whole}
 use Rattle.qc_catalogue.proofs.Lookups.{found_name}
 use Rattle.qc_recorder.specs.Fits.{and_then, argument, arguments, call_by, call_taken, kind_fits, args_fit, call_fits}
 use Rattle.qc_recorder.specs.Recording.{raw_arg, raw_call}

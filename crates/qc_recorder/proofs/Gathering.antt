@@ -5,7 +5,7 @@ use Rattle.qc_base.specs.declared.recording.Arg.{Arg}
 use Rattle.qc_protocol.specs.declared.order.RawArg.{RawArg}
 use Rattle.qc_protocol.specs.declared.reply.Refusal.{Refusal}
 use Rattle.qc_protocol.specs.declared.reply.Refusal.TheVariants.{BadArguments}
-use Rattle.qc_catalogue.specs.declared.script.Param.{Param}
+use Rattle.qc_script.specs.declared.names.Param.{Param}
 use Rattle.qc_recorder.specs.Fits.{and_then, arguments}
 
 -- what is behind these arguments

@@ -18,9 +18,9 @@ use Rattle.qc_catalogue.specs.declared.catalogue.App.{App}
 use Rattle.qc_catalogue.specs.declared.catalogue.Catalogue.{Catalogue}
 use Rattle.qc_catalogue.specs.declared.catalogue.Component.{Component}
 use Rattle.qc_catalogue.specs.declared.catalogue.Method.{Method}
-use Rattle.qc_catalogue.specs.declared.script.Param.{Param}
-use Rattle.qc_catalogue.specs.declared.script.ParamKind.{ParamKind}
-use Rattle.qc_catalogue.specs.declared.script.ParamKind.TheVariants.{Text, Whole}
+use Rattle.qc_script.specs.declared.names.Param.{Param}
+use Rattle.qc_script.specs.declared.names.ParamKind.{ParamKind}
+use Rattle.qc_script.specs.declared.names.ParamKind.TheVariants.{Text, Whole}
 
 -- what is asked for is there, or the first refusal
 abbrev pub and_then : {A B : Type 0} → Result A Refusal → (A → Result B Refusal) → Result B Refusal

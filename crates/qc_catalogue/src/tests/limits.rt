@@ -108,7 +108,7 @@ params = [
 @in_method
 params = []
 script = '''
-*64 aaaaaaaaaaaaaaaaaaaaaaaaaaaaaaaaaaaaaaaaaaaaaaaaaaaaaaaaaaaaaaa
+*64                                                               \u{20}
 '''
 => a catalogue
 @app
@@ -116,16 +116,32 @@ script = '''
 @in_method
 params = []
 script = '''
-*64 aaaaaaaaaaaaaaaaaaaaaaaaaaaaaaaaaaaaaaaaaaaaaaaaaaaaaaaaaaaaaaa
+*64                                                               \u{20}
 a'''
 => BadScript application.A.component.C.method.M.script 1
 @app
 @component
 @in_method
 params = []
+script = '''
+*32 fail
+'''
+=> a catalogue
+@app
+@component
+@in_method
+params = []
+script = '''
+*33 fail
+'''
+=> BadScript application.A.component.C.method.M.script 33
+@app
+@component
+@in_method
+params = []
 a = 1
 script = '''
-*64 aaaaaaaaaaaaaaaaaaaaaaaaaaaaaaaaaaaaaaaaaaaaaaaaaaaaaaaaaaaaaaa
+*64                                                               \u{20}
 a'''
 => BadScript application.A.component.C.method.M.script 1
 @app
@@ -133,7 +149,7 @@ a'''
 @in_method
 params = [\"out a text\"]
 script = '''
-*64 aaaaaaaaaaaaaaaaaaaaaaaaaaaaaaaaaaaaaaaaaaaaaaaaaaaaaaaaaaaaaaa
+*64                                                               \u{20}
 a'''
 => NotQueueable application.A.component.C.method.M
 @small
@@ -141,7 +157,7 @@ a'''
 class = \"6f1c2f9e-0b7e-4c52-9d0a-1f2e3d4c5b03\"
 method = {}
 final = '''
-*64 aaaaaaaaaaaaaaaaaaaaaaaaaaaaaaaaaaaaaaaaaaaaaaaaaaaaaaaaaaaaaaa
+*64                                                               \u{20}
 a'''
 => BadScript application.A.exception.X.final 1
 ";

@@ -90,6 +90,7 @@ returns-clause-steps g c =
       fits = c.requires.limits;
       there = λ t k. fits-in hub t recording k (c.requires.sent.fits told);
       catalogue = refl;
+      tables = refl;
       clients = refl;
       store = store;
       counted = counted s told h on;

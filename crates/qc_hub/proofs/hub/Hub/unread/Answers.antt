@@ -14,4 +14,4 @@ returns-in-Err g c =
 pub returns : goal.returns
 returns g c =
     logs-both g.S.Site c.args.limits c.args.site.now c.open.new.site c.open-2.new.site c.in-Ok-open.journal c.in-Ok-open.ensures.opens c.in-Ok-open-2.log _ c.in-Ok-open-2.ensures.opens refl refl
-    (record { catalogue = c.empty_catalogue.ensures; messages = c.in-Ok.ensures; counted = refl; last = c.clamp.ensures }) c.in-Ok-make.ensures refl refl
+    (record { catalogue = c.empty_catalogue.ensures; messages = c.in-Ok.ensures; tables = c.none.ensures; counted = refl; last = c.clamp.ensures }) c.in-Ok-make.ensures refl refl

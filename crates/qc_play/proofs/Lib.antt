@@ -1,0 +1,12 @@
+pub mod Boards
+pub mod CallCounts
+pub mod CallLimits
+pub mod EffectCounts
+pub mod EffectLaws
+pub mod InsideRows
+pub mod OuterLaws
+pub mod Playing
+pub mod Records
+pub mod RowNames
+pub mod Worths
+pub mod Writes

@@ -1,0 +1,42 @@
+-- Tables, and the amounts of their rows.
+use Rattle.std.specs.Prelude.{ℕ, List, [], map, filter, find, sum_by, Bool, not, ◌==◌}
+use Rattle.std.specs.Option.{option_map_or}
+use Rattle.std.specs.Str.{bytes_eq}
+use Rattle.qc_catalogue.specs.declared.catalogue.Catalogue.{Catalogue}
+use Rattle.qc_catalogue.specs.declared.catalogue.Opening.{Opening}
+
+-- a table and its rows that were ever set: each one's key and amount
+pub record TableRows : Type 0 where
+  pub name : List ℕ
+  pub rows : List (List ℕ × ℕ)
+
+-- as a catalogue opens them
+abbrev pub opened : Opening → TableRows
+opened o = record { name = o.name; rows = o.rows }
+
+abbrev pub opened_tables : Catalogue → List TableRows
+opened_tables c = map opened c.tables
+
+-- the rows of a table; none where there is no such table
+abbrev pub rows_in : List ℕ → List TableRows → List (List ℕ × ℕ)
+rows_in name tables =
+    option_map_or (λ (t : TableRows). t.rows) (find (λ (t : TableRows). bytes_eq t.name name) tables) []
+
+abbrev pub amount_at : List ℕ → List (List ℕ × ℕ) → ℕ
+amount_at key rows =
+    option_map_or (λ (r : List ℕ × ℕ). r.1) (find (λ (r : List ℕ × ℕ). bytes_eq r.0 key) rows) 0
+
+-- the amount of an inside row: 0 where it was never set
+abbrev pub amount_in : List ℕ → List ℕ → List TableRows → ℕ
+amount_in name key tables = amount_at key (rows_in name tables)
+
+-- what a listing shows: the rows whose amount isn't 0, and the sum of all
+
+abbrev pub is_shown : List ℕ × ℕ → Bool
+is_shown r = not (r.1 == 0)
+
+abbrev pub rows_shown : List ℕ → List TableRows → List (List ℕ × ℕ)
+rows_shown name tables = filter is_shown (rows_in name tables)
+
+abbrev pub total_in : List ℕ → List TableRows → ℕ
+total_in name tables = sum_by (λ (r : List ℕ × ℕ). r.1) (rows_in name tables)
