@@ -1,5 +1,5 @@
 -- A journal as the log that it stands on.
-use Rattle.std.proofs.Common.{take, drop, get_or, take-append-drop, ◌≡◌, ◌≢◌, inl, inr, ◌≤◌, ◌+◌, ◌-◌, max, ℕ, List, [], ◌∷◌, ◌++◌, length, map, All, true, refl, sym, ◌∙◌, ap, subst, arith}
+use Rattle.std.proofs.Common.{take, drop, get_or, take-append-drop, ◌≡◌, ◌≢◌, ◌⊎◌, ⊎_elim, inl, inr, ◌<◌, ◌≤◌, ◌+◌, ◌-◌, max, ℕ, List, [], ◌∷◌, ◌++◌, length, map, All, true, refl, sym, ◌∙◌, ap, subst, arith}
 use Rattle.std.specs.List.{flat_map}
 use Rattle.std.proofs.lemmas.List.{append-nil, length-drop}
 use Rattle.std.proofs.lemmas.List.Elements.{All-push, All-nil}
@@ -9,7 +9,7 @@ use Rattle.qc_site.specs.Image.{Image, bytes_of}
 use Rattle.qc_site.specs.Disk.{Images}
 use Rattle.qc_site.specs.declared.site.Site.{Ghosts}
 use Rattle.qc_site.specs.declared.site.SiteFile.TheVariants.{Journal}
-use Rattle.qc_frame.specs.Frame.{entry, groups_at}
+use Rattle.qc_frame.specs.Frame.{entry, groups_at, offsets}
 use Rattle.qc_frame.specs.declared.entries.Entry.{Entry}
 use Rattle.qc_frame.specs.Log.{LogView, Stands, NextGroup, DamagedGroup, HasGroup, WholeOrNotFrom, staged, forced}
 use Rattle.qc_frame.specs.Calls.{ChangesFile}
@@ -18,6 +18,7 @@ use Rattle.qc_frame.proofs.Staged.{still_stands}
 use Rattle.qc_journal.specs.History.{fact_payload}
 use Rattle.qc_journal.specs.Journal.{JournalView, journal_of, log_of, JournalStands, NextFact, DamagedFact, appended, not_appended}
 use Rattle.qc_base.proofs.Facts.{fact-free, fact-bounded}
+use Rattle.qc_entries.specs.Entries.{EntriesView, Filled, FirstAt, NextEntries}
 
 -- the log of a journal, from what is seen of it
 pub log_is : (log : LogView) (journal : JournalView) → log.file ≡ Journal → log.payload ≡ [] → journal_of log ≡ journal → log ≡ log_of journal
@@ -128,3 +129,22 @@ not_whole (e ∷ entries) entry bytes size read first is within other spells fac
     let begins : spelled_fact read ++ drop size bytes ≡ spelled_fact fact ++ [] = ap (λ (l : List ℕ). l ++ drop size bytes) (sym spells.is) ∙ take-append-drop size bytes ∙ whole ∙ sym (append-nil (spelled_fact fact)) in
     let left : drop size bytes ≡ [] = (fact-free read fact (drop size bytes) [] spells.limits limits begins).1 in
     other (omega (arith, within, ap length left, length-drop size bytes))
+
+-- where none was left, the entries that are left are those of the next group
+pub filled_next : (file : List ℕ) (old mid : EntriesView) (at : ℕ) → old.left ≡ [] → Filled file old mid → FirstAt mid at → NextEntries file old mid
+filled_next file old mid at none filled first =
+    ⊎_elim (λ (same : mid ≡ old). absurd (omega (arith, ap (λ (v : EntriesView). length v.left) same, ap length none, ap length first.is))) (λ (next : NextEntries file old mid). next) filled
+
+-- and the first of them stands behind the group's gate and length
+pub first_at : (file : List ℕ) (old mid : EntriesView) (at : ℕ) → NextEntries file old mid → FirstAt mid at → old.log.place + 5 ≡ at
+first_at file old mid at next first =
+    let places : map (λ (e : Entry). e.at) (first.entry ∷ first.rest) ≡ offsets (old.log.place + 5) (map (λ (e : Entry). e.bytes) (first.entry ∷ first.rest))
+    = subst (λ (l : List Entry). map (λ (e : Entry). e.at) l ≡ offsets (old.log.place + 5) (map (λ (e : Entry). e.bytes) l)) first.is next.group.spelled.placed in
+    sym (first.here ∙ ap (λ (l : List ℕ). get_or l 0 0) places)
+
+-- so the next group was read, and a loop to the end ends
+pub further : (old mid : EntriesView) (at : ℕ) → old.left ≡ [] → FirstAt mid at → (mid ≡ old) ⊎ ((old.log.place < mid.log.place) × (mid.log.place ≤ 4611686018427387904) × (length mid.left < 18446744073709551616))
+    → (old.log.place < mid.log.place) × (mid.log.place ≤ 4611686018427387904)
+further old mid at none first on =
+    ⊎_elim (λ (same : mid ≡ old). absurd (omega (arith, ap (λ (v : EntriesView). length v.left) same, ap length none, ap length first.is)))
+    (λ (on : (old.log.place < mid.log.place) × (mid.log.place ≤ 4611686018427387904) × (length mid.left < 18446744073709551616)). (on.0, on.1)) on

@@ -1,5 +1,4 @@
 pub mod Lengths
-pub mod Sequence
 mod PartsFree
 mod Refused
 pub mod Journals

@@ -12,7 +12,7 @@ use Rattle.qc_base.proofs.PrefixFree.{two_bytes-free, four_bytes-free, recording
 use Rattle.qc_base.proofs.Facts.{id-free}
 use Rattle.qc_base.proofs.Gathered.{Gathered, gathered_stops}
 use Rattle.qc_journal.specs.Parts.{is_any, is_queue, one_byte, spelled_kind, spelled_flag, is_text_of, spelled_text, spelled_sized, are_ids, spelled_ids}
-use Rattle.qc_journal.proofs.Sequence.{both, pair}
+use Rattle.qc_entries.proofs.Sequence.{both, pair}
 
 pub catalogue_none : (old : List ℕ) → NoneBegins is_text_of spelled_text old → NoneBegins is_fact spelled_fact (1 ∷ old)
 catalogue_none old none (Catalogue text) left limits e = none text left limits (ap (λ (l : List ℕ). drop 1 l) e)

@@ -1,9 +1,10 @@
 // Facts from bytes.
 ghost use Rattle.std.specs.Prelude.{◌≡◌, ◌≤◌, ◌∷◌, [], length, take, IfOk, MatchOption, option_copied};
-ghost use Rattle.qc_base.specs.Spelling.{Reads, NoneBegins, SpellsFact, spelled_fact, is_fact, is_attempt, eight_bytes, is_recording};
+ghost use Rattle.qc_base.specs.Spelling.{Reads, NoneBegins, SpellsFact, spelled_fact, is_fact, is_recording};
 ghost use Rattle.qc_journal.specs.Parts.{is_any, is_queue, one_byte, spelled_kind, spelled_flag, is_text_of, spelled_text, spelled_sized, are_ids, spelled_ids};
 
 use qc_base::{Fact, Ids, Kind, NoMemory, Reader, Recording, Word, read_recording};
+use qc_entries::read_attempt;
 use std::alloc::Global;
 
 /// The fact whose spelling the bytes begin with, and the length of that spelling in bytes (docs/FORMATS.md, "Facts").
@@ -61,7 +62,7 @@ fn played_from(reader: &mut Reader<'_>) -> Option<Fact>
     ensures { Reads is_fact spelled_fact (3 ∷ reader.old) reader.new result }
 {
     let id = reader.read_u64()?;
-    let attempt = attempt_from(reader)?;
+    let attempt = read_attempt(reader)?;
     let kind = kind_from(reader)?;
     let at = reader.read_moment()?;
     Some(Fact::Played(id, attempt, kind, at))
@@ -71,7 +72,7 @@ fn failed_from(reader: &mut Reader<'_>) -> Option<Fact>
     ensures { Reads is_fact spelled_fact (4 ∷ reader.old) reader.new result }
 {
     let id = reader.read_u64()?;
-    let attempt = attempt_from(reader)?;
+    let attempt = read_attempt(reader)?;
     let at = reader.read_moment()?;
     Some(Fact::Failed(id, attempt, at))
 }
@@ -101,20 +102,6 @@ fn switched_from(reader: &mut Reader<'_>) -> Option<Fact>
     let on = flag_from(reader)?;
     let at = reader.read_moment()?;
     Some(Fact::Switched(app, on, at))
-}
-
-// The number of an attempt, from 1 to 2^63 - 1.
-fn attempt_from(reader: &mut Reader<'_>) -> Option<u64>
-    ensures { Reads is_attempt eight_bytes reader.old reader.new result }
-{
-    let n = reader.read_u64()?;
-    if n < 1 {
-        return None;
-    }
-    if n > 9_223_372_036_854_775_807 {
-        return None;
-    }
-    Some(n)
 }
 
 fn kind_from(reader: &mut Reader<'_>) -> Option<Kind>

@@ -6,6 +6,7 @@ use crate::fact_size::size_of_fact;
 use qc_base::{
     Fact, Kind, NoMemory, put_bytes, put_name, put_recording, put_u16, put_u32, put_u64,
 };
+use qc_entries::Spelled;
 use std::alloc::Global;
 
 /// The spelling of a fact (docs/FORMATS.md, "Facts"). The fact is within the limits of that section.
@@ -18,9 +19,25 @@ pub fn write_fact(alloc: Global, fact: &Fact) -> Result<Vec<u8>, NoMemory>
     Ok(bytes)
 }
 
-/// Appends the spelling of a fact within the limits. There is room for it, so this takes no memory.
+/// A fact as it is staged.
+#[derive(Clone, Copy)]
+pub(crate) struct Staged<'a>(pub(crate) &'a Fact);
+
+impl Spelled for Staged<'_> {
+    ghost use Rattle.qc_base.specs.Spelling.{spelled_fact, is_fact};
+
+    ghost within = { λ a. is_fact a.0.now };
+
+    ghost spelled = { λ a. spelled_fact a.0.now };
+
+    fn put(&self, out: &mut Vec<u8>) {
+        put_fact(out, self.0)
+    }
+}
+
+// Appends the spelling of a fact within the limits. There is room for it, so this takes no memory.
 #[tactic(auto, using(crate::proofs::Lengths::fact_lengths))]
-pub(crate) fn put_fact(out: &mut Vec<u8>, fact: &Fact)
+fn put_fact(out: &mut Vec<u8>, fact: &Fact)
     requires limits { is_fact fact.now ≡ true }
     requires room { vec_len out.old + length (spelled_fact fact.now) ≤ vec_capacity out.old }
     ensures bytes { out.new.items ≡ out.old.items ++ spelled_fact fact.now }

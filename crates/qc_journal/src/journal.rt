@@ -8,9 +8,10 @@ ghost use Rattle.qc_journal.specs.Journal.{log_of, CanAppend, DamagedFact};
 ghost use Rattle.qc_journal.specs.Calls.{FindsFact, AppendsFact};
 
 use crate::fact_reader::read_fact;
-use crate::fact_writer::put_fact;
+use crate::fact_writer::Staged;
 use qc_base::{Fact, NoMemory};
-use qc_frame::{Group, Log, LogError};
+use qc_entries::EntryLog;
+use qc_frame::{Entry, Log, LogError};
 use qc_site::{Failed, Site, SiteFile};
 use std::alloc::Global;
 use std::marker::Model;
@@ -25,29 +26,28 @@ const HEADER: [u8; 16] = *b"QC-JOURNAL-0001\n";
 /// log has in common in that file of `qc_frame`.
 #[derive(Drop)]
 pub struct Journal {
-    log: Log,
-    // Where a fact is spelled before it is staged: empty, with room for as much as the log has.
-    spelling: Vec<u8>,
+    // Between two calls no entry is left of the group that was read last, and none waits to be forced.
+    entries: EntryLog,
 }
 
 impl Model for Journal {
-    ghost use Rattle.std.specs.Prelude.{◌≡◌, ◌+◌, ◌≤◌, [], vec_len, vec_capacity};
+    ghost use Rattle.std.specs.Prelude.{◌≡◌, []};
     ghost use Rattle.qc_site.specs.declared.site.SiteFile.TheVariants.{Journal as the_file};
     ghost use Rattle.qc_journal.specs.Journal.{JournalView, journal_of};
 
     ghost Value = { JournalView };
 
-    ghost view = { λ a. journal_of a.log };
+    ghost view = { λ a. journal_of a.entries.log };
 
-    ghost invariant = { λ a. (a.log.file ≡ the_file) × (a.log.payload ≡ []) × (a.spelling.items ≡ []) × (vec_len a.spelling ≡ 0) × (a.log.spare ≤ vec_capacity a.spelling + 4) };
+    ghost invariant = { λ a. (a.entries.log.file ≡ the_file) × (a.entries.log.payload ≡ []) × (a.entries.left ≡ []) };
 }
 
-// The fact that a group is, or None where it isn't one entry that is exactly a fact's spelling.
-fn fact_of(alloc: Global, group: &Group) -> Result<Option<Fact>, NoMemory>
-    ensures some { IfOk result (λ r. IfSome r (λ fact. (is_fact fact ≡ true) × (map (λ e. e.bytes) group.now.entries ≡ spelled_fact fact ∷ []))) }
-    ensures none { IfOk result (λ r. IfNone r ((fact : Fact) → is_fact fact ≡ true → map (λ e. e.bytes) group.now.entries ≢ spelled_fact fact ∷ [])) }
+// The fact that these entries are, or None where they aren't one that is exactly a fact's spelling.
+fn fact_of(alloc: Global, entries: &[Entry]) -> Result<Option<Fact>, NoMemory>
+    ensures some { IfOk result (λ r. IfSome r (λ fact. (is_fact fact ≡ true) × (map (λ e. e.bytes) entries.now ≡ spelled_fact fact ∷ []))) }
+    ensures none { IfOk result (λ r. IfNone r ((fact : Fact) → is_fact fact ≡ true → map (λ e. e.bytes) entries.now ≢ spelled_fact fact ∷ [])) }
 {
-    let [entry] = group.entries.as_slice() else {
+    let [entry] = entries else {
         return Ok(None);
     };
     let bytes = entry.bytes.as_slice();
@@ -90,11 +90,8 @@ impl Journal {
         ensures opens { OpensLog S.Site the_file journal_header 16 log_of result site.old site.new }
         ensures not_damaged { (at : ℕ) → ¬ IsErrOf result (LogError.Damaged at) }
     {
-        let log = Log::open(alloc, site, SiteFile::Journal, &HEADER)?;
-        Ok(Journal {
-            log,
-            spelling: Vec::new(alloc),
-        })
+        let entries = EntryLog::open(alloc, site, SiteFile::Journal, &HEADER)?;
+        Ok(Journal { entries })
     }
 
     /// The next fact and the offset in the file of its entry, or None at the end, where a gate that is missing or isn't
@@ -114,21 +111,23 @@ impl Journal {
         ensures reads { ReadsOn S.Site (DamagedFact (S.shown site.old).journal self.old.place)
             result (log_of self.old) site.old (log_of self.new) site.new }
     {
-        let Some(group) = self.log.next_group(alloc, site)? else {
+        let Some(at) = self.entries.fill(alloc, site)? else {
             return Ok(None);
         };
-        let at = group.at + 5;
-        match fact_of(alloc, &group)? {
-            Some(fact) => Ok(Some((at, fact))),
-            None => Err(LogError::Damaged(at)),
-        }
+        let fact = fact_of(alloc, self.entries.left());
+        let all = self.entries.left().len();
+        self.entries.pass(all);
+        let Some(fact) = fact? else {
+            return Err(LogError::Damaged(at));
+        };
+        Ok(Some((at, fact)))
     }
 
     /// The length of the file in bytes.
     pub fn length(&self) -> u64
         ensures { result ≡ self.now.length }
     {
-        self.log.length()
+        self.entries.length()
     }
 
     /// Makes the room for facts at least this many bytes, each fact with four bytes more than its spelling.
@@ -138,10 +137,7 @@ impl Journal {
         ensures ok { OnOk result (self.new ≡ record self.old { spare = max self.old.spare bytes }) }
         ensures err { OnErr result (self.new ≡ self.old) }
     {
-        if self.spelling.reserve(bytes).is_err() {
-            return Err(NoMemory);
-        }
-        self.log.reserve(alloc, bytes)
+        self.entries.reserve(alloc, bytes)
     }
 
     /// Adds a fact, in four calls of the site. Takes no memory.
@@ -155,10 +151,8 @@ impl Journal {
         requires can { CanAppend self.old fact.now }
         ensures { AppendsFact S.Site fact.now result self.old site.old self.new site.new }
     {
-        put_fact(&mut self.spelling, fact);
-        self.log.stage(&self.spelling);
-        self.spelling.clear();
-        self.log.force(site)?;
+        self.entries.stage(&Staged(fact));
+        self.entries.force(site)?;
         Ok(())
     }
 }

@@ -50,7 +50,7 @@ module _ {A : Type 0} (before : A → A → Bool) where
         ap (λ n. get_or ys n e) jk ∙ get_or_default ys k e d lt
 
   -- the first item that passes is the only one that passes
-  find_only : (p : A → Bool) (y : A) (xs : List A) → Contains xs y → p y ≡ true → All (λ z. p z ≡ true → z ≡ y) xs → find p xs ≡ Some y
+  pub find_only : (p : A → Bool) (y : A) (xs : List A) → Contains xs y → p y ≡ true → All (λ z. p z ≡ true → z ≡ y) xs → find p xs ≡ Some y
   find_only p y [] c t h = absurd (omega (arith, c.1))
   find_only p y (x ∷ xs) c t h = by (p x) refl (λ d. find_only p y xs d t (All-tail (λ z. p z ≡ true → z ≡ y) x xs h))
     where

@@ -21,7 +21,6 @@ use Rattle.qc_base.specs.declared.fact.Place.TheVariants.{Queue, Dead, Consumed}
 use Rattle.qc_base.specs.declared.message.Message.{Message}
 use Rattle.qc_base.specs.declared.queue.Waiting.{Waiting}
 use Rattle.qc_base.specs.Messages.{comes_before, in_queue, waiting_as, of_app, listing, is_consumed, consumed_ids}
-use Rattle.qc_store.specs.Own.{AreOwn}
 use Rattle.qc_store.specs.Stored.{IdsRise}
 use Rattle.qc_store.proofs.InOrder.{IsStrictlyOrdered, in_order_is}
 
@@ -30,10 +29,10 @@ use Rattle.qc_store.proofs.InOrder.{IsStrictlyOrdered, in_order_is}
 abbrev one_if : Bool → ℕ
 one_if b = cond b 1 0
 
-count-cons : {A : Type 0} (p : A → Bool) (x : A) (xs : List A) → count_by p (x ∷ xs) ≡ cond (p x) 1 0 + count_by p xs
+pub count-cons : {A : Type 0} (p : A → Bool) (x : A) (xs : List A) → count_by p (x ∷ xs) ≡ cond (p x) 1 0 + count_by p xs
 count-cons p x xs = sum_by-cons (λ y. cond (p y) 1 0) x xs
 
-count_map : {A B : Type 0} (p : B → Bool) (f : A → B) (xs : List A) → count_by p (map f xs) ≡ count_by (λ x. p (f x)) xs
+pub count_map : {A B : Type 0} (p : B → Bool) (f : A → B) (xs : List A) → count_by p (map f xs) ≡ count_by (λ x. p (f x)) xs
 count_map p f [] = refl
 count_map p f (x ∷ xs) = count-cons p (f x) (map f xs) ∙ ap (λ n. cond (p (f x)) 1 0 + n) (count_map p f xs) ∙ sym (count-cons (λ y. p (f y)) x xs)
 
@@ -159,6 +158,3 @@ ids_counted app ms = sym (length-filter consumes (of_app app ms)) ∙ sym (lengt
 
 pub consumed_counted : (app : List ℕ) (ms : List Message) → count_by (λ (m : Message). bytes_eq m.recording.app app && is_consumed m.place) ms ≡ length (consumed_ids app ms)
 consumed_counted app ms = count_both (λ (m : Message). bytes_eq m.recording.app app) consumes ms ∙ ids_counted app ms
-
-pub own_counted : (app : List ℕ) (ms : List Message) (own : List (Bor Message)) → AreOwn app ms own → count_by (λ (r : Bor Message). is_consumed r.now.place) own ≡ length (consumed_ids app ms)
-own_counted app ms own given = sym (count_map consumes (λ (r : Bor Message). r.now) own) ∙ ap (count_by consumes) given.1 ∙ ids_counted app ms

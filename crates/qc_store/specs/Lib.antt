@@ -1,2 +1,5 @@
+pub mod Due
+pub mod Live
 pub mod Own
 pub mod Stored
+pub mod Tallies

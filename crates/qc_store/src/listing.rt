@@ -4,14 +4,12 @@ ghost use Rattle.qc_base.specs.Messages.{listing, waiting_queues, dead_ids, cons
 ghost use Rattle.qc_base.specs.declared.message.Message.{Message};
 ghost use Rattle.qc_store.specs.Own.{AreOwn};
 
-use crate::place::{is_consumed, is_in_queue, waiting};
+use crate::place::{DEAD_QUEUE, is_in_queue, waiting};
 use crate::store::Store;
 use qc_base::{Ids, Message, NoMemory, Queue, Queues};
 use std::alloc::Global;
 
 const QUEUES: [u8; 6] = [0, 1, 2, 3, 4, 5];
-
-const DEAD_QUEUE: u8 = 6;
 
 /// What the queues of an application hold.
 #[derive(Debug, Drop)]
@@ -38,7 +36,7 @@ impl Store {
         Ok(Listing {
             queues,
             dead,
-            consumed: consumed_of(own.as_slice()),
+            consumed: self.consumed(app),
         })
     }
 
@@ -91,14 +89,4 @@ fn queue_of(alloc: Global, own: &[&Message], queue: u8) -> Result<Queue, NoMemor
     }
     list.sort_unstable_by_key(|entry| (entry.due.get(), entry.id));
     Ok(Queue::over(list))
-}
-
-/// How many are consumed.
-fn consumed_of(own: &[&Message]) -> u64
-    ensures { (app : List ℕ) → (messages : List Message) → AreOwn app messages own.now
-        → result ≡ length (consumed_ids app messages) }
-{
-    own.iter()
-        .filter(|message| is_consumed(message.place))
-        .count() as u64
 }

@@ -3,8 +3,9 @@ use Rattle.qc_base.specs.Names.{is_name}
 use Rattle.qc_base.specs.Spelling.{short_bytes, eight_bytes, is_moment, Reads}
 use Rattle.qc_base.proofs.Facts.{moment-free}
 use Rattle.qc_journal.specs.Parts.{is_queue, one_byte, are_ids, spelled_ids}
-use Rattle.qc_journal.proofs.Sequence.{both, pair, pair_none, pair_none_behind}
-use Rattle.qc_journal.proofs.PartsFree.{name_free, queue_free}
+use Rattle.qc_entries.proofs.Sequence.{both, pair, pair_none, pair_none_behind}
+use Rattle.qc_entries.proofs.Attempts.{name_free}
+use Rattle.qc_journal.proofs.PartsFree.{queue_free}
 use Rattle.qc_journal.proofs.Refused.{moved_none}
 use Rattle.qc_journal.proofs.fact_reader.moved_from.Goals as goal
 

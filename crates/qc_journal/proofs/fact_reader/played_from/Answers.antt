@@ -1,6 +1,6 @@
 use Rattle.qc_base.specs.Spelling.{eight_bytes, is_id, is_moment, is_attempt, spelled_fact, is_fact}
 use Rattle.qc_journal.specs.Parts.{is_any, spelled_kind}
-use Rattle.qc_journal.proofs.Sequence.{both, pair, pair_none, pair_none_behind, reads_none}
+use Rattle.qc_entries.proofs.Sequence.{both, pair, pair_none, pair_none_behind, reads_none}
 use Rattle.qc_base.proofs.Facts.{id-free, attempt-free}
 use Rattle.qc_journal.proofs.PartsFree.{kind_free}
 use Rattle.qc_journal.proofs.Refused.{played_none}

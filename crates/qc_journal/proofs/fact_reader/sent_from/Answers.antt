@@ -1,7 +1,7 @@
 use Rattle.std.proofs.Common.{subst}
 use Rattle.qc_base.specs.Spelling.{eight_bytes, is_id, is_moment, is_recording, Reads}
 use Rattle.qc_journal.specs.Parts.{spelled_sized}
-use Rattle.qc_journal.proofs.Sequence.{both, pair, pair_none, pair_none_behind}
+use Rattle.qc_entries.proofs.Sequence.{both, pair, pair_none, pair_none_behind}
 use Rattle.qc_base.proofs.Facts.{id-free, moment-free}
 use Rattle.qc_journal.proofs.Refused.{sent_none}
 use Rattle.qc_journal.proofs.fact_reader.sent_from.Goals as goal

@@ -1,8 +1,9 @@
 use Rattle.qc_base.specs.Names.{is_name}
 use Rattle.qc_base.specs.Spelling.{short_bytes, eight_bytes, is_moment, spelled_fact, is_fact}
 use Rattle.qc_journal.specs.Parts.{is_any, spelled_flag}
-use Rattle.qc_journal.proofs.Sequence.{both, pair, pair_none, pair_none_behind, reads_none}
-use Rattle.qc_journal.proofs.PartsFree.{name_free, flag_free}
+use Rattle.qc_entries.proofs.Sequence.{both, pair, pair_none, pair_none_behind, reads_none}
+use Rattle.qc_entries.proofs.Attempts.{name_free}
+use Rattle.qc_journal.proofs.PartsFree.{flag_free}
 use Rattle.qc_journal.proofs.Refused.{switched_none}
 use Rattle.qc_journal.proofs.fact_reader.switched_from.Goals as goal
 

@@ -1,7 +1,7 @@
 use Rattle.std.proofs.Common.{ap}
 use Rattle.qc_journal.specs.Parts.{is_text_of, spelled_text}
 use Rattle.std.specs.Option.{option_copied}
-use Rattle.qc_journal.proofs.Sequence.{reads_none}
+use Rattle.qc_entries.proofs.Sequence.{reads_none}
 use Rattle.qc_journal.proofs.Refused.{text_long, text_short}
 use Rattle.qc_journal.proofs.fact_reader.text_from.Goals as goal
 

@@ -1,86 +1,63 @@
-use Rattle.std.proofs.Common.{◌≡◌, ◌∙◌, ◌<◌, ◌≤◌, ◌+◌, ◌++◌, List, ℕ, length, ap, arith, rules, length-append}
+use Rattle.std.proofs.Common.{◌≡◌, ◌∙◌, ◌<◌, ◌≤◌, ◌+◌, ◌++◌, List, ℕ, length, ap, arith, rules}
 use Rattle.qc_base.specs.Spelling.{spelled_fact}
 use Rattle.qc_frame.specs.Log.{LogView, staged, forced}
+use Rattle.qc_entries.specs.Entries.{EntriesView}
 use Rattle.qc_journal.specs.History.{fact_payload}
 use Rattle.qc_journal.specs.Journal.{JournalView}
 use Rattle.qc_base.proofs.Facts.{fact-bounded}
 use Rattle.qc_journal.proofs.Journals.{stands_log, stands_staged, stands_journal, log_is, length-payload, appended_is, made_of, changes_of}
 use Rattle.qc_journal.proofs.journal.Journal.append_forced.Goals as goal
 
-pub stage-requires : goal.stage-requires
-stage-requires g c =
-    let fact = c.args.fact.now in
-    let spelled : c.deref.result.now ≡ spelled_fact c.args.fact.now = c.deref.ensures.value ∙ c.put_fact.ensures.bytes ∙ ap (λ (l : List ℕ). l ++ spelled_fact c.args.fact.now) c.self.invariant.2 in
-    let bounds = fact-bounded fact c.requires.can.limits in
+pub stage-requires-clause-can : goal.stage-requires-clause-can
+stage-requires-clause-can g c =
+    let bounds = fact-bounded c.args.fact.now c.requires.can.limits in
     record {
-      some = omega (arith, ap length spelled, bounds.0);
+      some = bounds.0;
       ended = ap (λ (j : JournalView). j.ended) c.self.view_is ∙ c.requires.can.ended;
-      room = omega (arith, ap length spelled, c.requires.can.room, ap (λ (j : JournalView). j.spare) c.self.view_is);
-      fits = omega (arith, ap length spelled, bounds.1, ap length c.self.invariant.1);
+      room = omega (arith, c.requires.can.room, ap (λ (j : JournalView). j.spare) c.self.view_is);
+      fits = omega (arith, bounds.1, ap length c.self.invariant.1);
     }
 
 pub force-requires : goal.force-requires
 force-requires g c =
     let fact = c.args.fact.now in
-    let log = c.self.inside.log in
-    let spelled : c.deref.result.now ≡ spelled_fact c.args.fact.now = c.deref.ensures.value ∙ c.put_fact.ensures.bytes ∙ ap (λ (l : List ℕ). l ++ spelled_fact c.args.fact.now) c.self.invariant.2 in
-    let waits : c.stage.new.self ≡ staged log (spelled_fact fact) = c.stage.ensures ∙ ap (λ (l : List ℕ). staged log l) spelled in
+    let log = c.self.inside.entries.log in
+    let waits : c.stage.new.self.log ≡ staged log (spelled_fact fact) = ap (λ (v : EntriesView). v.log) c.stage.ensures in
     let site = g.S.Site in
-    record { stands = stands_staged site.told (site.shown c.args.site.now) (site.may_leave c.args.site.now) log c.stage.new.self (spelled_fact fact) waits (stands_log site.told (site.shown c.args.site.now) (site.may_leave c.args.site.now) log c.args.self.now c.self.invariant.0 c.self.invariant.1 c.self.view_is c.requires.stands) }
-
-pub invariant_of-self-2 : goal.invariant_of-self-2
-invariant_of-self-2 g c =
-    let fact = c.args.fact.now in
-    let log = c.self.inside.log in
-    let spelled : c.deref.result.now ≡ spelled_fact c.args.fact.now = c.deref.ensures.value ∙ c.put_fact.ensures.bytes ∙ ap (λ (l : List ℕ). l ++ spelled_fact c.args.fact.now) c.self.invariant.2 in
-    let waits : c.stage.new.self ≡ staged log (spelled_fact fact) = c.stage.ensures ∙ ap (λ (l : List ℕ). staged log l) spelled in
-    let payload : c.stage.new.self.payload ≡ fact_payload fact = ap (λ (l : LogView). l.payload) waits ∙ ap (λ (l : List ℕ). l ++ fact_payload fact) c.self.invariant.1 in
-    let some : 0 < length c.stage.new.self.payload = omega (arith, ap length payload, length-payload fact) in
-    let new : c.force.new.self ≡ forced (staged log (spelled_fact fact)) = c.in_ok-force.ensures.moved some ∙ ap forced waits in
-    let room : length (spelled_fact fact) + 4 ≤ log.spare = omega (arith, c.requires.can.room, ap (λ (j : JournalView). j.spare) c.self.view_is) in
-    let spare : c.force.new.self.spare ≡ log.spare = ap (λ (l : LogView). l.spare) new ∙ omega (arith, room, length-append log.payload (fact_payload fact), length-payload fact, ap length c.self.invariant.1) in (
-      ap (λ (l : LogView). l.file) new ∙ c.self.invariant.0,
-      ap (λ (l : LogView). l.payload) new,
-      c.clear.ensures.items,
-      c.clear.ensures.len,
-      omega (arith, spare, c.self.invariant.4, c.put_fact.ensures.room, c.clear.ensures.capacity),
-    )
+    record { stands = stands_staged site.told (site.shown c.args.site.now) (site.may_leave c.args.site.now) log c.stage.new.self.log (spelled_fact fact) waits (stands_log site.told (site.shown c.args.site.now) (site.may_leave c.args.site.now) log c.args.self.now c.self.invariant.0 c.self.invariant.1 c.self.view_is c.requires.stands) }
 
 pub returns : goal.returns
 returns g c = record {
   journal =
       let fact = c.args.fact.now in
-      let log = c.self.inside.log in
-      let spelled : c.deref.result.now ≡ spelled_fact c.args.fact.now = c.deref.ensures.value ∙ c.put_fact.ensures.bytes ∙ ap (λ (l : List ℕ). l ++ spelled_fact c.args.fact.now) c.self.invariant.2 in
-      let waits : c.stage.new.self ≡ staged log (spelled_fact fact) = c.stage.ensures ∙ ap (λ (l : List ℕ). staged log l) spelled in
-      let payload : c.stage.new.self.payload ≡ fact_payload fact = ap (λ (l : LogView). l.payload) waits ∙ ap (λ (l : List ℕ). l ++ fact_payload fact) c.self.invariant.1 in
-      let some : 0 < length c.stage.new.self.payload = omega (arith, ap length payload, length-payload fact) in
-      let new : c.force.new.self ≡ forced (staged log (spelled_fact fact)) = c.in_ok-force.ensures.moved some ∙ ap forced waits in
+      let log = c.self.inside.entries.log in
+      let waits : c.stage.new.self.log ≡ staged log (spelled_fact fact) = ap (λ (v : EntriesView). v.log) c.stage.ensures in
+      let payload : c.stage.new.self.log.payload ≡ fact_payload fact = ap (λ (l : LogView). l.payload) waits ∙ ap (λ (l : List ℕ). l ++ fact_payload fact) c.self.invariant.1 in
+      let some : 0 < length c.stage.new.self.log.payload = omega (arith, ap length payload, length-payload fact) in
+      let new : c.force.new.self.log ≡ forced (staged log (spelled_fact fact)) = c.in_ok-force.ensures.forces.moved some ∙ ap forced waits in
       let room : length (spelled_fact fact) + 4 ≤ log.spare = omega (arith, c.requires.can.room, ap (λ (j : JournalView). j.spare) c.self.view_is) in
-      appended_is log c.force.new.self c.args.self.now fact c.self.invariant.1 c.self.view_is new room;
+      appended_is log c.force.new.self.log c.args.self.now fact c.self.invariant.1 c.self.view_is new room;
   failed = search rules;
   made = λ told.
       let fact = c.args.fact.now in
-      let log = c.self.inside.log in
-      let spelled : c.deref.result.now ≡ spelled_fact c.args.fact.now = c.deref.ensures.value ∙ c.put_fact.ensures.bytes ∙ ap (λ (l : List ℕ). l ++ spelled_fact c.args.fact.now) c.self.invariant.2 in
-      let waits : c.stage.new.self ≡ staged log (spelled_fact fact) = c.stage.ensures ∙ ap (λ (l : List ℕ). staged log l) spelled in
-      let payload : c.stage.new.self.payload ≡ fact_payload fact = ap (λ (l : LogView). l.payload) waits ∙ ap (λ (l : List ℕ). l ++ fact_payload fact) c.self.invariant.1 in
-      let some : 0 < length c.stage.new.self.payload = omega (arith, ap length payload, length-payload fact) in
+      let log = c.self.inside.entries.log in
+      let waits : c.stage.new.self.log ≡ staged log (spelled_fact fact) = ap (λ (v : EntriesView). v.log) c.stage.ensures in
+      let payload : c.stage.new.self.log.payload ≡ fact_payload fact = ap (λ (l : LogView). l.payload) waits ∙ ap (λ (l : List ℕ). l ++ fact_payload fact) c.self.invariant.1 in
+      let some : 0 < length c.stage.new.self.log.payload = omega (arith, ap length payload, length-payload fact) in
       let site = g.S.Site in
       let journal = log_is log c.args.self.now c.self.invariant.0 c.self.invariant.1 c.self.view_is in
-      made_of (site.shown c.args.site.now) (site.shown c.force.new.site) log c.stage.new.self c.args.self.now fact waits journal payload (c.in_ok-force.ensures.made told some);
+      made_of (site.shown c.args.site.now) (site.shown c.force.new.site) log c.stage.new.self.log c.args.self.now fact waits journal payload (c.in_ok-force.ensures.forces.made told some);
   makes =
       let fact = c.args.fact.now in
-      let log = c.self.inside.log in
-      let spelled : c.deref.result.now ≡ spelled_fact c.args.fact.now = c.deref.ensures.value ∙ c.put_fact.ensures.bytes ∙ ap (λ (l : List ℕ). l ++ spelled_fact c.args.fact.now) c.self.invariant.2 in
-      let waits : c.stage.new.self ≡ staged log (spelled_fact fact) = c.stage.ensures ∙ ap (λ (l : List ℕ). staged log l) spelled in
-      let payload : c.stage.new.self.payload ≡ fact_payload fact = ap (λ (l : LogView). l.payload) waits ∙ ap (λ (l : List ℕ). l ++ fact_payload fact) c.self.invariant.1 in
-      let some : 0 < length c.stage.new.self.payload = omega (arith, ap length payload, length-payload fact) in
-      let new : c.force.new.self ≡ forced (staged log (spelled_fact fact)) = c.in_ok-force.ensures.moved some ∙ ap forced waits in
+      let log = c.self.inside.entries.log in
+      let waits : c.stage.new.self.log ≡ staged log (spelled_fact fact) = ap (λ (v : EntriesView). v.log) c.stage.ensures in
+      let payload : c.stage.new.self.log.payload ≡ fact_payload fact = ap (λ (l : LogView). l.payload) waits ∙ ap (λ (l : List ℕ). l ++ fact_payload fact) c.self.invariant.1 in
+      let some : 0 < length c.stage.new.self.log.payload = omega (arith, ap length payload, length-payload fact) in
+      let new : c.force.new.self.log ≡ forced (staged log (spelled_fact fact)) = c.in_ok-force.ensures.forces.moved some ∙ ap forced waits in
       let site = g.S.Site in
       let journal = log_is log c.args.self.now c.self.invariant.0 c.self.invariant.1 c.self.view_is in
       record {
-        stands = stands_journal site.told (site.shown c.force.new.site) (site.may_leave c.force.new.site) c.force.new.self (ap (λ (l : LogView). l.file) new ∙ c.self.invariant.0) (ap (λ (l : LogView). l.payload) new) c.in_ok-force.ensures.makes.stands;
-        changes = changes_of site c.stage.new.self log c.args.self.now fact _ c.args.site.now c.force.new.site waits journal payload c.in_ok-force.ensures.makes.changes;
+        stands = stands_journal site.told (site.shown c.force.new.site) (site.may_leave c.force.new.site) c.force.new.self.log (ap (λ (l : LogView). l.file) new ∙ c.self.invariant.0) (ap (λ (l : LogView). l.payload) new) c.in_ok-force.ensures.forces.makes.stands;
+        changes = changes_of site c.stage.new.self.log log c.args.self.now fact _ c.args.site.now c.force.new.site waits journal payload c.in_ok-force.ensures.forces.makes.changes;
       };
 }

@@ -1,11 +1,8 @@
-use Rattle.std.proofs.Common.{◌≡◌, ◌∙◌, ◌&&◌, count_by, rules}
-use Rattle.std.specs.Str.{bytes_eq}
-use Rattle.qc_base.specs.declared.message.Message.{Message}
-use Rattle.qc_base.specs.Messages.{is_consumed}
-use Rattle.qc_store.proofs.Listings.{consumed_counted}
+use Rattle.std.proofs.Common.{◌∙◌, length, ap}
+use Rattle.qc_base.specs.Messages.{consumed_ids}
+use Rattle.qc_store.specs.Stored.{Stored}
+use Rattle.qc_store.specs.Tallies.{tally_of}
 use Rattle.qc_store.proofs.store.Store.consumed.Goals as goal
 
 pub returns : goal.returns
-returns c =
-    let counted : c.count.result ≡ count_by (λ (m : Message). bytes_eq m.recording.app c.args.app.now && is_consumed m.place) c.args.self.now.messages = search rules in
-    counted ∙ consumed_counted c.args.app.now c.args.self.now.messages
+returns c = c.tally_of.ensures ∙ ap (tally_of c.args.app.now) c.as_slice.ensures.value ∙ c.self.invariant.all_consumed c.args.app.now ∙ ap (λ (v : Stored). length (consumed_ids c.args.app.now v.messages)) c.self.view_is

@@ -1,0 +1,14 @@
+use Rattle.std.proofs.Common.{◌≡◌, ◌∙◌, ℕ, ◌+◌, ◌-◌, ◌≤◌, [], ◌∷◌, length, refl, sym, ap, subst, arith}
+use Rattle.qc_entries.specs.Entries.{EntriesView}
+use Rattle.crm_clerk.specs.Clerk.{ClerkView, registering_lines, writing_lines, forgot_line, forgetting_lines}
+use Rattle.crm_clerk_tests.specs.Desk.{IsReady}
+use Rattle.crm_clerk_tests.proofs.Ready.{registering-length, forgetting-length, ready-after, ready-staged}
+use Rattle.crm_clerk_tests.proofs.desk.Desk.forget.Goals as goal
+
+pub returns-clause-ready : goal.returns-clause-ready
+returns-clause-ready g c =
+    let d = c.args.self.now in
+    let calls : ℕ = d.calls - 1 in
+    let back : d.calls ≡ calls + 1 = omega (arith, c.requires.some) in
+    let ready : IsReady g.S.Site d.site d.log d.clerk (calls + 1) = subst (λ (n : ℕ). IsReady g.S.Site d.site d.log d.clerk n) back c.requires.ready in
+    ready-staged g.S.Site (forgot_line d.clerk c.args.resource.now c.args.seq ∷ []) 0 d.clerk c.forget.new.self d.log c.forget.new.log d.site calls c.forget.ensures (omega arith) (omega arith) ready

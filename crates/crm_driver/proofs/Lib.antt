@@ -1,0 +1,5 @@
+pub mod PutLaws
+pub mod Putting
+pub mod Telling
+mod Answering
+mod Backwards

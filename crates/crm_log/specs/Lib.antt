@@ -1,0 +1,4 @@
+pub mod Log
+pub mod Lines
+pub mod Calls
+pub mod Parts

@@ -1,0 +1,4 @@
+pub mod Attempts
+pub mod Sequence
+pub mod Whole
+mod Left

@@ -1,0 +1,4 @@
+mod Choosing
+pub mod Kept
+mod Lists
+mod Walk

@@ -1,0 +1,5 @@
+pub mod Parts
+pub mod Outcome
+pub mod Attempt
+pub mod Ends
+pub mod Played
