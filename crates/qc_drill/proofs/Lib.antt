@@ -1,3 +1,4 @@
+pub mod Accounts
 pub mod Behind
 pub mod Lines
 pub mod Joined

@@ -25,6 +25,7 @@ use Rattle.qc_hub.specs.declared.hub.Hub.{Hub}
 use Rattle.qc_hub.specs.Stands.{IsHubOf, StepsTo}
 use Rattle.qc_hub.specs.Calls.{IsReady, StepsBy, TakesStep}
 use Rattle.qc_hub.proofs.Calling.{answered, journal-certain, log-certain}
+use Rattle.qc_hub.proofs.Later.{took-nothing}
 use Rattle.qc_drill.specs.Drill.{read_as, asked, asked_at, asked_step, line_step, with_newline, out_of_line, after_line}
 use Rattle.qc_drill.specs.Progress.{MayStand}
 use Rattle.qc_drill.specs.Calls.{AnswersFrom}
@@ -79,7 +80,7 @@ module _ {S : Type 0} (g : Ghosts S) where
   pub refused-line : (line : List ℕ) (refusal : Refusal) (hub : Hub) (site : S) → ((c : Image) → g.told → g.left_since site (g.moment site) c → g.may_leave site c) → IsReady g hub site → asked line ≡ Err refusal
       → StepsBy g (asked_at (asked line)) (λ s. line_step s line) (Ok (Refused refusal)) hub site hub site
   refused-line line refusal hub site now ready is =
-      answered g (asked_at (asked line)) (λ s. line_step s line) (Ok (Refused refusal)) hub hub site now ready (inl refl) (λ e. cc)
+      answered g (asked_at (asked line)) (λ s. line_step s line) (Ok (Refused refusal)) hub hub site now ready (inl (took-nothing hub)) (λ e. cc)
       (λ told s h on. subst (λ (t : Step). StepsTo t hub (g.shown site) (Refused refusal)) (sym (ap (asked_step s) is)) (record { replies = refl; is_in = h; on_site = on }))
 
   -- a blank line is passed over
@@ -137,4 +138,4 @@ module _ {S : Type 0} (g : Ghosts S) (s : State) (line : List ℕ) (site : S) (n
       stays-stand is_in same =
           let here : IsSiteOf (g.shown after) s = subst (λ (i : Image). IsSiteOf i s) (sym same) on in
           ⊎_elim (λ h. record { state = s; is_in = h; on_site = here; by = inl refl })
-          (λ h. record { state = at_moment (asked_at (asked line)) s; is_in = h; on_site = record { stands = here.stands; journal = here.journal; log = here.log }; by = inr (inl refl) }) is_in
+          (λ h. record { state = at_moment (asked_at (asked line)) s; is_in = h; on_site = record { stands = here.stands; rows = here.rows; journal = here.journal; log = here.log }; by = inr (inl refl) }) is_in

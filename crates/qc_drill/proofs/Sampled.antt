@@ -11,9 +11,9 @@ use Rattle.qc_recorder.specs.Fits.{recording_fits}
 use Rattle.qc_rows.specs.Tables.{opened_tables}
 use Rattle.qc_machine.specs.declared.limits.Limits.{Limits}
 use Rattle.qc_machine.specs.History.{by_text, if_ok, no_catalogue}
-use Rattle.qc_machine.specs.Sites.{no_clients}
+use Rattle.qc_machine.specs.Sites.{no_clients, no_players}
 use Rattle.qc_machine.specs.State.{State}
-use Rattle.qc_drill.specs.Worked.{made_facts, made_end}
+use Rattle.qc_drill.specs.Worked.{made_facts, made_rows, made_end}
 
 pub sample-some : catalogue_of sample ≡ Ok sample_catalogue → (is_some (by_text sample) && true) ≡ true
 unfolding by_text
@@ -28,8 +28,10 @@ sample-read is = ap (λ (r : Result Catalogue CatalogueError). unwrap_or (if_ok 
 abbrev pub made_by : Catalogue → Limits → State
 made_by c limits = record {
   history = record { facts = made_facts; catalogue = c; messages = []; tables = opened_tables c; last = 0 };
+  rows = made_rows;
   last = 0;
   clients = no_clients;
+  players = no_players;
   journal = record { gate = 1672; size = 1673 };
   log = made_end;
   limits = limits;

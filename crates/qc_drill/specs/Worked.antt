@@ -1,7 +1,8 @@
 -- Worked lines, and the bytes that have to come of them.
-use Rattle.std.specs.Prelude.{ℕ, List, [], ◌∷◌, ◌++◌, take, drop, codes}
+use Rattle.std.specs.Prelude.{ℕ, List, [], ◌∷◌, ◌++◌, take, drop, codes, None}
 use Rattle.qc_base.specs.declared.fact.Fact.{Fact}
 use Rattle.qc_base.specs.declared.fact.Fact.TheVariants.{Catalogue as InForce}
+use Rattle.qc_base.specs.Rows.{OutsideRows, set_row}
 use Rattle.qc_catalogue.specs.Sample.{sample}
 use Rattle.qc_frame.specs.Frame.{group}
 use Rattle.qc_journal.specs.History.{fact_payload, journal_header}
@@ -15,7 +16,8 @@ use Rattle.qc_protocol.specs.declared.order.RawArg.TheVariants.{Text, Whole}
 use Rattle.qc_drill.specs.Headline.{programs_limits}
 
 -- A site that was just made: its one fact is the sample catalogue. The journal up to its end gate, and whole; the log
--- of compensations; and the state that the site is read as, under the programs' limits or with another on its bytes.
+-- of compensations; the outside rows; and the state that the site is read as, under the programs' limits or with another
+-- on its bytes.
 
 abbrev pub made_facts : List Fact
 made_facts = InForce sample ∷ []
@@ -29,11 +31,14 @@ made_journal = before_gate ++ 0x00 ∷ []
 abbrev pub made_log : List ℕ
 made_log = log_header ++ 0x00 ∷ []
 
+abbrev pub made_rows : OutsideRows
+made_rows = set_row (codes "till") (codes "drawer") 100 (set_row (codes "post") (codes "letters") 0 (λ resource key. None))
+
 abbrev pub made_end : FileEnd
 made_end = record { gate = 16; size = 17 }
 
 abbrev pub made_under : Limits → State
-made_under limits = as_read limits (history_of by_text made_facts) (record { gate = 1672; size = 1673 }) made_end
+made_under limits = as_read limits (history_of by_text made_facts) made_rows (record { gate = 1672; size = 1673 }) made_end
 
 abbrev pub just_made : State
 just_made = made_under programs_limits
@@ -102,3 +107,11 @@ three_tables = codes "{\"at\":0,\"do\":\"table\",\"table\":\"stock\"}\n{\"at\":0
 
 abbrev pub three_shown : List ℕ
 three_shown = codes "table stock \"bolt\" 10, \"nut\" 3; total 13\ntable sold; total 0\nrefused 17 UnknownTable\n"
+
+-- resources: one whose changes are made early, one whose are made late, and one that the catalogue lacks
+
+abbrev pub three_resources : List ℕ
+three_resources = codes "{\"at\":0,\"do\":\"outside\",\"resource\":\"till\"}\n{\"at\":0,\"do\":\"outside\",\"resource\":\"post\"}\n{\"at\":0,\"do\":\"outside\",\"resource\":\"none\"}\n"
+
+abbrev pub three_held : List ℕ
+three_held = codes "outside till \"drawer\" 100; total 100\noutside post \"letters\" 0; total 0\nrefused 17 UnknownTable\n"

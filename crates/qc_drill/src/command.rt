@@ -3,9 +3,11 @@ ghost use Rattle.std.specs.Prelude.{◌≡◌, ◌↔◌, ◌<◌, [], Some, len
 ghost use Rattle.qc_protocol.specs.Texts.{lines_of};
 ghost use Rattle.qc_site.specs.Disk.{LeavesOnly};
 ghost use Rattle.qc_site.specs.Causes.{Rose};
+ghost use Rattle.qc_site.specs.Image.{Image};
 ghost use Rattle.qc_journal.specs.History.{IsMade};
 ghost use Rattle.qc_machine.specs.Sites.{HasHeaders, ReadsAs};
 ghost use Rattle.qc_machine.specs.State.{State};
+ghost use Rattle.qc_drill.specs.Accounts.{KeepsAccounts};
 ghost use Rattle.qc_drill.specs.Crash.{LeavesOpened};
 ghost use Rattle.qc_drill.specs.Headline.{programs_limits, is_of_run, is_unfailed, is_unmade, is_empty_site, Drills};
 ghost use Rattle.qc_drill.specs.Inits.{Inits};
@@ -78,6 +80,9 @@ pub fn run<S: Site, I: Source, O: Sink>(
         → ReadsAs programs_limits (S.shown site.old) s
         → IfSome (I.left source.old) (λ bytes.
         LeavesOnly S.moment S.left_since site.old site.new (LeavesOpened (S.may_leave site.old) s (lines_of bytes))) }
+    // What stands in the end, and whatever a crash leaves at any moment: each message in one place, and the totals.
+    ensures accounts { (S.told → KeepsAccounts (S.shown site.new))
+        × ((c : Image) → S.left_since site.new (S.moment site.old) c → KeepsAccounts c) }
     ensures unfailed { S.told → (s : State) → ReadsAs programs_limits (S.shown site.old) s
         → is_drill words.now.items ≡ true
         → ¬ Rose (I.faults source.old) (I.faults source.new) → ¬ Rose (O.faults sink.old) (O.faults sink.new)

@@ -1,8 +1,8 @@
 //! Lines in, lines out: the commands of the program over any site, source and sink.
 //!
 //! `run` carries out a command and answers its status. For the word `init` it makes the site from the catalogue that
-//! the source has. For the word `drill` it opens the site's hub, reads order lines from the source to its end, and writes
-//! the reply line of each. `answer_line` answers one line.
+//! the source has. For the word `drill` it opens the site's hub, reads order lines from the source to its end, and
+//! writes the reply line of each. `answer_line` answers one line.
 //!
 //! What the lines of a byte string are, which order a line asks for, and what the machine replies are the definitions
 //! of docs/RULES.md and docs/FORMATS.md; `specs/Drill.antt` puts them together. `specs/Headline.antt` says what a drill
@@ -26,5 +26,5 @@ pub use command::run;
 pub use laws::lines_lose_no_fact;
 pub use worked::{
     a_fact_without_its_tag_is_damage, a_group_that_is_cut_is_closed, a_send_is_listed,
-    a_send_takes_its_room, tables_are_listed, two_sends_are_listed,
+    a_send_takes_its_room, outside_rows_are_listed, tables_are_listed, two_sends_are_listed,
 };

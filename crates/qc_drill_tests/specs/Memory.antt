@@ -12,7 +12,7 @@ use Rattle.qc_drill.specs.Reads.{HasRead}
 
 -- the state that a site is read as that was made from the sample
 abbrev pub sample_state : Image → State
-sample_state image = as_read programs_limits (history_of by_text (InForce sample ∷ [])) (file_end image.journal) (file_end image.crm_log)
+sample_state image = as_read programs_limits (history_of by_text (InForce sample ∷ [])) image.rows (file_end image.journal) (file_end image.crm_log)
 
 -- What the sink holds after a drill of these bytes: the replies of the machine to the lines that were read of them, from
 -- the state that a site is read as that was made from the sample. A drill that is done has read all of them.

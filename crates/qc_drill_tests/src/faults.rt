@@ -18,10 +18,6 @@ fn made_length(alloc: Global) -> Result<u64, Fail> {
     Ok(site.len(FILE)?)
 }
 
-fn damaged_at(alloc: Global, at: u64) -> Result<String, Fail> {
-    Ok(format!(in alloc; "damaged journal at {at}\n")?)
-}
-
 // Where the first step of Order's Place stands in the journal: behind the header, the gate, two lengths, the fact's tag
 // and the length of the catalogue's text.
 fn first_step() -> Result<u64, Fail> {

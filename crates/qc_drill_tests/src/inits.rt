@@ -59,11 +59,11 @@ fn a_text_makes_a_site_or_is_told_its_first_fault(rt: HostRuntime) -> Result<(),
         assert_eq!(rt; ended, status);
         assert_eq!(rt; sink.contents(), said);
     }
-    let (status, sink) = drill(alloc, &mut site, &[SEND, EMPTY_ORDER, LIST])?;
+    let (status, sink) = drill(alloc, &mut site, &[SEND, EMPTY_ORDER, TILL, LIST])?;
     assert_eq!(rt; status, Status::Done);
     assert_eq!(rt;
         sink.contents(),
-        joined(alloc, &[SENT_1, NO_MOMENT, LISTED_1])?.as_slice()
+        joined(alloc, &[SENT_1, NO_MOMENT, TILL_SHOWN, LISTED_1])?.as_slice()
     );
     Ok(())
 }

@@ -118,6 +118,11 @@ pub fn drill(
     run_words(alloc, site, &["drill"], joined(alloc, input)?, NOTHING)
 }
 
+/// What is written where the journal is damaged at this entry. The error is want of memory.
+pub fn damaged_at(alloc: Global, at: u64) -> Result<String, NoMemory> {
+    format!(in alloc; "damaged journal at {at}\n").map_err(|_| NoMemory)
+}
+
 mod memory;
 
 pub use memory::drill_in_memory;
@@ -130,6 +135,8 @@ mod faults;
 mod inits;
 #[cfg(test)]
 mod limits;
+#[cfg(test)]
+mod outside;
 #[cfg(test)]
 mod recording;
 #[cfg(test)]

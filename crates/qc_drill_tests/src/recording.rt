@@ -57,7 +57,7 @@ const LINES: &[(&str, &str)] = &[
         "refused 4 NoSuchSlot 17",
     ),
     (
-        r#"{"at":0,"do":"take","player":17,"app":"Orders"}"#,
+        r#"{"at":0,"do":"move","from":"Orders","to":"Orders","batch":1}"#,
         "refused 3 NotBuilt",
     ),
     (

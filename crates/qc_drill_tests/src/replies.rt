@@ -7,7 +7,7 @@ use std::test::Fail;
 #[test]
 fn lines_have_their_replies(rt: HostRuntime) -> Result<(), Fail> {
     let alloc = rt.alloc();
-    let table: [(&[&[u8]], &[&[u8]]); 13] = [
+    let table: [(&[&[u8]], &[&[u8]]); 17] = [
         (&[], &[]),
         (&[SEND, LIST], &[SENT_1, LISTED_1]),
         (&[LIST_UNENDED], &[LISTED_NONE]),
@@ -20,7 +20,8 @@ fn lines_have_their_replies(rt: HostRuntime) -> Result<(), Fail> {
             &[LIST_OF_ONE, NONSENSE, TAKE_BY_NO_PLAYER, LIST_AND_MORE],
             &[NO_LINE, NO_LINE, NO_PLAYER, ONE_MORE_MEMBER],
         ),
-        (&[TAKE, LIST], &[NOT_BUILT, LISTED_NONE]),
+        (&[TAKE, LIST], &[NOTHING_DUE, LISTED_NONE]),
+        (&[MOVE, LIST], &[NOT_BUILT, LISTED_NONE]),
         (&[SEND_AT_0_AND_5, LIST], &[SENT_1, LISTED_1_AT_5]),
         (&[SEND_MOST, LIST], &[SENT_1, LISTED_1]),
         (&[SEND_TOO_MUCH, LIST], &[BAD_AMOUNT, LISTED_NONE]),
@@ -37,6 +38,19 @@ fn lines_have_their_replies(rt: HostRuntime) -> Result<(), Fail> {
         (
             &[NO_TABLE_AT_5, SEND, STOCK, LIST],
             &[UNKNOWN_TABLE, SENT_1, STOCK_SHOWN, LISTED_1_AT_5],
+        ),
+        (
+            &[TILL, POST, NO_RESOURCE, STOCK_AS_RESOURCE],
+            &[TILL_SHOWN, POST_SHOWN, UNKNOWN_TABLE, UNKNOWN_TABLE],
+        ),
+        // so does a resource
+        (
+            &[TILL_AT_5, SEND, LIST],
+            &[TILL_SHOWN, SENT_1, LISTED_1_AT_5],
+        ),
+        (
+            &[NO_RESOURCE_AT_5, SEND, LIST],
+            &[UNKNOWN_TABLE, SENT_1, LISTED_1_AT_5],
         ),
     ];
     for (input, replies) in table {

@@ -40,6 +40,27 @@ pub const SOLD_SHOWN: &[u8] = b"table sold; total 0\n";
 
 pub const UNKNOWN_TABLE: &[u8] = b"refused 17 UnknownTable\n";
 
+pub const TILL: &[u8] = b"{\"at\":0,\"do\":\"outside\",\"resource\":\"till\"}\n";
+
+pub const POST: &[u8] = b"{\"at\":0,\"do\":\"outside\",\"resource\":\"post\"}\n";
+
+pub const NO_RESOURCE: &[u8] = b"{\"at\":0,\"do\":\"outside\",\"resource\":\"none\"}\n";
+
+// A table is no resource.
+pub const STOCK_AS_RESOURCE: &[u8] = b"{\"at\":0,\"do\":\"outside\",\"resource\":\"stock\"}\n";
+
+pub const TILL_AT_5: &[u8] = b"{\"at\":5,\"do\":\"outside\",\"resource\":\"till\"}\n";
+
+pub const NO_RESOURCE_AT_5: &[u8] = b"{\"at\":5,\"do\":\"outside\",\"resource\":\"none\"}\n";
+
+pub const TILL_SHOWN: &[u8] = b"outside till \"drawer\" 100; total 100\n";
+
+pub const TILL_OF_104: &[u8] = b"outside till \"drawer\" 104; total 104\n";
+
+pub const TILL_MISSING: &[u8] = b"outside till \"drawer\" missing; total 0\n";
+
+pub const POST_SHOWN: &[u8] = b"outside post \"letters\" 0; total 0\n";
+
 pub const LIST_UNENDED: &[u8] = b"{\"at\":0,\"do\":\"queues\",\"app\":\"Orders\"}";
 
 pub const LIST_NOT_UTF8: &[u8] = b"{\"at\":0,\"do\":\"queues\",\"app\":\"Orders\xff\"}\n";
@@ -55,6 +76,9 @@ pub const TAKE_BY_NO_PLAYER: &[u8] =
 
 pub const TAKE: &[u8] = b"{\"at\":0,\"do\":\"take\",\"player\":1,\"app\":\"Orders\"}\n";
 
+pub const MOVE: &[u8] =
+    b"{\"at\":0,\"do\":\"move\",\"from\":\"Orders\",\"to\":\"Orders\",\"batch\":1}\n";
+
 pub const LIST_AND_MORE: &[u8] = b"{\"at\":0,\"do\":\"queues\",\"app\":\"Orders\",\"queue\":0}\n";
 
 pub const BLANK: &[u8] = b" \t\r\n";
@@ -64,6 +88,8 @@ pub const SENT_1: &[u8] = b"sent 1\n";
 pub const SENT_2: &[u8] = b"sent 2\n";
 
 pub const NOT_BUILT: &[u8] = b"refused 3 NotBuilt\n";
+
+pub const NOTHING_DUE: &[u8] = b"refused 20 NothingDue earliest none blocked 0\n";
 
 pub const BAD_AMOUNT: &[u8] = b"refused 12 BadArguments 1 2\n";
 

@@ -1,25 +1,27 @@
 -- Calls of the hub, put together: one that makes no call of the site, one that hands on another's, one behind the hub's
 -- own change.
-use Rattle.std.proofs.Common.{◌≡◌, ◌⊎◌, ℕ, List, [], ◌∷◌, ◌++◌, max, Bool, true, false, refl, sym, ap, ◌∙◌, subst, inl, inr, ⊎_elim, arith, Ok, Err, IfOk, IsErrOf}
+use Rattle.std.proofs.Common.{◌≡◌, ◌⊎◌, ℕ, List, [], ◌∷◌, ◌++◌, Bool, true, false, refl, sym, ap, ◌∙◌, subst, inl, inr, ⊎_elim, arith, Ok, Err, IfOk, IsErrOf}
 use Rattle.std.specs.declared.result.Result.{Result}
+use Rattle.qc_protocol.specs.declared.order.Act.{Act}
 use Rattle.qc_protocol.specs.declared.reply.Reply.{Reply}
 use Rattle.qc_site.specs.declared.site.Site.{Ghosts}
 use Rattle.qc_site.specs.declared.site.SiteFile.{SiteFile}
 use Rattle.qc_site.specs.declared.site.SiteFile.TheVariants.{Journal, CrmLog}
 use Rattle.qc_site.specs.Image.{Image, bytes_of}
-use Rattle.qc_site.specs.Disk.{Images, Certain, LeavesOnly}
+use Rattle.qc_site.specs.Disk.{Certain, LeavesOnly}
 use Rattle.qc_site.proofs.Moments.{started, weaker, joined}
 use Rattle.qc_machine.specs.History.{History, by_text}
 use Rattle.qc_machine.specs.State.{State, at_moment}
 use Rattle.qc_machine.specs.Sites.{StandsFor, IsSiteOf, IsKept, LeavesOneOf}
+use Rattle.qc_machine.specs.Step.{step}
 use Rattle.qc_machine.specs.Steps.{Step, stays, Among, IsBetween}
 use Rattle.qc_machine.proofs.Images.{image-stays, one-of, stays-same, stays-joined}
 use Rattle.qc_hub.specs.declared.error.HubError.{HubError}
 use Rattle.qc_hub.specs.declared.error.HubError.TheVariants.{SiteFault, NoMemory}
 use Rattle.qc_hub.specs.declared.hub.Hub.{Hub}
-use Rattle.qc_hub.specs.Stands.{IsHubOf, IsHubOn, StepsTo}
-use Rattle.qc_hub.specs.Calls.{KeepsSite, StandsSound, HubStands, IsReady, LeavesStanding, Starves, TakesStep, StepsBy}
-use Rattle.qc_hub.proofs.Later.{Later, Since, Moved, later-hub, later-ready, moved-hub, moved-ready, moved-limits, not-both}
+use Rattle.qc_hub.specs.Stands.{IsHubOf, StepsTo}
+use Rattle.qc_hub.specs.Calls.{CarriesOut, KeepsSite, MovesOnly, StandsSound, IsReady, LeavesStanding, TakesStep, StepsBy}
+use Rattle.qc_hub.proofs.Later.{Later, Since, later-hub, later-ready, moved-hub, moved-ready, moved-since, moved-limits, not-both, state-of}
 
 -- the second step behind the first
 abbrev pub u_after : Step → Step → Step
@@ -57,6 +59,7 @@ module _ {S : Type 0} (g : Ghosts S) where
 pub kept-site : (shown : Image) (s t : State) → KeepsSite s t → IsSiteOf shown s → IsSiteOf shown t
 kept-site shown s t keeps on = record {
   stands = subst (λ (h : History). StandsFor by_text shown h.facts) (sym keeps.history) on.stands;
+  rows = on.rows ∙ sym keeps.rows;
   journal = keeps.journal ∙ on.journal;
   log = keeps.log ∙ on.log;
 }
@@ -94,7 +97,7 @@ module _ {S : Type 0} (g : Ghosts S) (at : ℕ) where
       }
 
   pub answered : (by : State → Step) (result : Result Reply HubError) (hub new : Hub) (site : S) → ((c : Image) → g.told → g.left_since site (g.moment site) c → g.may_leave site c)
-      → IsReady g hub site → Moved hub new at → ¬ IsErrOf result SiteFault → (g.told → (s : State) → IsHubOf hub s → IsSiteOf (g.shown site) s → IfOk result (StepsTo (by s) new (g.shown site)))
+      → IsReady g hub site → MovesOnly at hub new → ¬ IsErrOf result SiteFault → (g.told → (s : State) → IsHubOf hub s → IsSiteOf (g.shown site) s → IfOk result (StepsTo (by s) new (g.shown site)))
       → StepsBy g at by result hub site new site
   answered by result hub new site now ready moved no_fault answer =
       answered_in by result hub new site now ready (moved-ready g hub new at site moved ready) (moved-limits hub new at moved) no_fault (λ s h e. moved-hub hub new at s moved h) answer
@@ -103,16 +106,16 @@ module _ {S : Type 0} (g : Ghosts S) (at : ℕ) where
   pub replied : (by : State → Step) (reply : Reply) (hub new : Hub) (site : S) → ((c : Image) → g.told → g.left_since site (g.moment site) c → g.may_leave site c)
       → IsReady g hub site → Since hub new at → ((s : State) → IsHubOf hub s → by s ≡ stays (at_moment at s) reply) → StepsBy g at by (Ok reply) hub site new site
   replied by reply hub new site now ready since steps =
-      answered by (Ok reply) hub new site now ready (inr since) (λ e. cc)
+      answered by (Ok reply) hub new site now ready (moved-since hub new at since) (λ e. cc)
       (λ told s h on. subst (λ (t : Step). StepsTo t new (g.shown site) reply) (sym (steps s h)) (record {
         replies = refl;
         is_in = later-hub hub new at s since h;
-        on_site = record { stands = on.stands; journal = on.journal; log = on.log };
+        on_site = record { stands = on.stands; rows = on.rows; journal = on.journal; log = on.log };
       }))
 
   -- a call that made none and was in want of memory
   pub starved : (by : State → Step) (result : Result Reply HubError) (hub new : Hub) (site : S) → ((c : Image) → g.told → g.left_since site (g.moment site) c → g.may_leave site c)
-      → IsReady g hub site → Moved hub new at → result ≡ Err NoMemory → StepsBy g at by result hub site new site
+      → IsReady g hub site → MovesOnly at hub new → result ≡ Err NoMemory → StepsBy g at by result hub site new site
   starved by result hub new site now ready moved is =
       subst (λ (r : Result Reply HubError). StepsBy g at by r hub site new site) (sym is) (answered by (Err NoMemory) hub new site now ready moved (λ e. cc) (λ told s h on. tt))
 
@@ -123,6 +126,11 @@ module _ {S : Type 0} (g : Ghosts S) (at : ℕ) where
     moment = call.moment;
     leaves = call.leaves;
   }
+
+  -- a call that carries out an order, as that is given to it
+  pub of_order : (act given : Act) → act ≡ given → (result : Result Reply HubError) (hub : Hub) (site : S) (new : Hub) (after : S) → CarriesOut g (record { at = at; act = given }) result hub site new after → CarriesOut g (record { at = at; act = act }) result hub site new after
+  of_order act given is result hub site new after call =
+      handed_on (λ s. step s (record { at = at; act = act })) (λ s. step s (record { at = at; act = given })) result hub site new after (λ s h. ap (λ (a : Act). step s (record { at = at; act = a })) is) call
 
   -- Two calls in turn, the second of which takes no memory: the whole goes through the state between them.
   pub in_turn : (s : State) (t u : Step) (result : Result Reply HubError) (r : Reply) (site : S) (mid : Hub) (between : S) (new : Hub) (after : S) → ((d : Image) → g.may_leave between d → g.left_since between (g.moment site) d)
@@ -180,10 +188,7 @@ module _ {S : Type 0} (g : Ghosts S) (at : ℕ) where
 
   -- the hub after its own change is ready for a call
   pub own-ready : (own : State → State) (hub mid : Hub) (site : S) → Later hub mid at → ((s : State) → IsHubOf hub s → IsHubOf mid (own s) × KeepsSite s (own s)) → IsReady g hub site → IsReady g mid site
-  own-ready own hub mid site later is_own ready = later-ready g hub mid at site later on ready
-    where
-      on : g.told → IsHubOn (g.shown site) mid
-      on told =
-          let was = (ready.stands.sound ready.no_fault).state told in
-          let is = is_own was.state was.is_in in
-          record { state = own was.state; is_in = is.0; on_site = kept-site (g.shown site) was.state (own was.state) is.1 was.on_site }
+  own-ready own hub mid site later is_own ready =
+      let was = state-of g hub site ready in
+      let is = is_own was.state was.is_in in
+      later-ready g hub mid at site later (record { state = own was.state; is_in = is.0; on_site = λ told. kept-site (g.shown site) was.state (own was.state) is.1 (was.on_site told) }) ready

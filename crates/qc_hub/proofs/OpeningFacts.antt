@@ -1,19 +1,16 @@
 -- Facts that a journal spells, read one after the other.
-use Rattle.std.proofs.Common.{◌≡◌, ⊎_elim, ℕ, List, [], ◌∷◌, ◌++◌, length, map, true, false, refl, ap, sym, ◌∙◌, subst, append-nil, Some, None, Ok, Err}
+use Rattle.std.proofs.Common.{◌≡◌, ⊎_elim, ℕ, List, [], ◌∷◌, ◌++◌, length, map, true, false, refl, ap, sym, ◌∙◌, subst, append-nil}
 use Rattle.std.specs.List.{list_all}
 use Rattle.std.proofs.lemmas.Bool.{and_parts}
 use Rattle.qc_base.specs.declared.fact.Fact.{Fact}
 use Rattle.qc_base.specs.Spelling.{is_fact, spelled_fact}
 use Rattle.qc_base.proofs.Bytes.{fronts_same}
 use Rattle.qc_base.proofs.Facts.{fact-free}
-use Rattle.qc_catalogue.specs.declared.catalogue.Catalogue.{Catalogue}
-use Rattle.qc_catalogue.specs.declared.error.CatalogueError.{CatalogueError}
-use Rattle.qc_catalogue.specs.Catalogue.{catalogue_of}
 use Rattle.qc_frame.specs.Frame.{size_bytes}
 use Rattle.qc_frame.proofs.Groups.{length-size_bytes}
 use Rattle.qc_journal.specs.History.{SpellsHistory, fact_payload}
 use Rattle.qc_journal.specs.Journal.{DamagedFact}
-use Rattle.qc_machine.specs.History.{History, by_text, if_ok, no_facts, after_fact, after_facts, history_of, may_follow, all_follow}
+use Rattle.qc_machine.specs.History.{History, by_text, no_facts, after_fact, after_facts, history_of, may_follow, all_follow}
 use Rattle.qc_machine.specs.Opening.{DamagedJournal, NotNext}
 
 -- a payload is one fact's alone
@@ -93,13 +90,3 @@ no-history file at d gs spells legal =
   where
     true_not_false : true ≡ false → ⊥
     true_not_false e = cc
-
--- as the service reads a text
-
-pub text-some : (text : List ℕ) (c : Catalogue) → catalogue_of text ≡ Ok c → by_text text ≡ Some c
-unfolding by_text
-text-some text c e = ap if_ok e
-
-pub text-none : (text : List ℕ) (why : CatalogueError) → catalogue_of text ≡ Err why → by_text text ≡ None
-unfolding by_text
-text-none text why e = ap if_ok e

@@ -1,23 +1,27 @@
 -- Opening both logs, and what each exit of that says.
-use Rattle.std.proofs.Common.{◌≡◌, ◌≤◌, ℕ, [], refl, sym, ap, ◌∙◌, subst, arith, false, Ok, Err, IsErrOf}
+use Rattle.std.proofs.Common.{◌≡◌, ◌≤◌, ℕ, max, refl, sym, ap, ◌∙◌, subst, arith, false, Ok, Err, IsErrOf}
 use Rattle.qc_site.specs.declared.site.Site.{Ghosts}
 use Rattle.qc_site.specs.declared.site.SiteFile.TheVariants.{Journal, CrmLog}
 use Rattle.qc_site.specs.Causes.{Rose}
-use Rattle.qc_site.specs.Image.{Image, bytes_of}
+use Rattle.qc_site.specs.Image.{Image}
 use Rattle.qc_site.proofs.Moments.{started, weaker, joined}
 use Rattle.qc_frame.specs.declared.error.LogError.{LogError}
 use Rattle.qc_frame.specs.declared.error.LogError.TheVariants.{SiteFault, Damaged}
 use Rattle.qc_frame.specs.Calls.{LogStands, WritesNothing, OpensLog}
+use Rattle.qc_frame.proofs.Staged.{stands_reserved}
 use Rattle.qc_frame.specs.Frame.{HasHeader}
-use Rattle.qc_frame.specs.Log.{LogView, StandsOn, just_opened}
+use Rattle.qc_frame.specs.Log.{LogView, just_opened}
 use Rattle.qc_journal.specs.History.{journal_header}
 use Rattle.qc_journal.specs.Journal.{JournalView, log_of, journal_of, journal_opened}
 use Rattle.qc_machine.specs.declared.error.OpenError.TheVariants.{SiteFault as site_fault, NotMade as not_made, NoCatalogue as no_first, Damaged as damaged, NoMemory as no_memory}
 use Rattle.qc_machine.specs.declared.limits.Limits.{Limits}
-use Rattle.qc_machine.specs.Sites.{log_header, no_clients}
+use Rattle.qc_history.specs.Stands.{IsHistoryOf}
+use Rattle.qc_machine.specs.History.{no_facts}
+use Rattle.qc_machine.specs.Sites.{log_header, no_clients, no_players}
+use Rattle.qc_players.specs.Players.{players_of}
 use Rattle.qc_hub.specs.declared.hub.Hub.{Hub}
-use Rattle.qc_hub.specs.Opening.{in_journal, in_log, damage_at, HasFacts, FindsLogs}
-use Rattle.qc_hub.proofs.Logs.{stands-among}
+use Rattle.qc_hub.specs.Opening.{in_journal, in_log, damage_at, FindsLogs}
+use Rattle.qc_hub.proofs.Logs.{stands-still}
 use Rattle.qc_hub.proofs.OpeningErrors.{by-fault, by-header, by-damage, no-first}
 use Rattle.qc_hub.proofs.OpeningLog.{any_place}
 
@@ -40,13 +44,6 @@ module _ {S : Type 0} (g : Ghosts S) where
     any_moment = λ told. joined g.moment g.left_since site mid after _ (first.any_moment told) (weaker g.moment g.left_since mid after _ _ (first.crash told) (second.any_moment told));
     cause = record { no_fewer = omega (arith, first.cause.no_fewer, second.cause.no_fewer); cause = λ f. rose (g.faults site) (g.faults mid) (g.faults after) first.cause.no_fewer (second.cause.cause f) };
   }
-
-  stands-still : {then : Type 0} (log : LogView) (site after : S) → ¬ then → WritesNothing g then site after → LogStands g log site → LogStands g log after
-  stands-still log site after fine writes stands = λ told.
-      let st = stands told in
-      let file = bytes_of log.file (g.shown site) in
-      subst (λ (i : Image). StandsOn (bytes_of log.file i) (g.may_leave after) log) (sym (writes.same told fine))
-      (stands-among file (g.may_leave site) (g.may_leave after) log (λ c here. st.certain c (writes.crash told c here)) st)
 
   module _ (limits : Limits) (site : S) where
     -- no call was made
@@ -100,18 +97,36 @@ module _ {S : Type 0} (g : Ghosts S) where
             (writes-said _ _ mid after (λ is. let same : in_log e ≡ site_fault = cc in ap Err (by-fault any_place e same)) (λ is. let same : e ≡ SiteFault = cc in ap (λ x. Err (in_log x)) same) opens.writes);
       }
 
-      -- both were opened
-      pub logs-both : (log : LogView) (hub : Hub) → OpensLog g CrmLog log_header 16 (λ log. log) (Ok log) mid after → hub.journal ≡ journal → hub.log ≡ log → HasFacts [] hub → hub.clients ≡ no_clients → hub.limits ≡ limits → hub.in_fault ≡ false → FindsLogs g limits (Ok hub) site after
-      logs-both log hub opens is_journal is_log none idle limited no_fault = record {
+      -- the journal took no room
+      pub logs-full : FindsLogs g limits (Err no_memory) site mid
+      logs-full = record {
+        unread = tt;
+        journal = tt;
+        log = tt;
+        headers = λ told. tt;
+        not_made = λ told is. absurd cc;
+        not_empty = λ is. cc;
+        not_damaged = λ d is. cc;
+        writes = writes-said _ _ site mid (λ is. absurd cc) (λ is. absurd cc) first.writes;
+      }
+
+      -- both were opened, and the journal has room
+      pub logs-both : (log : LogView) (hub : Hub) → OpensLog g CrmLog log_header 16 (λ log. log) (Ok log) mid after → hub.journal ≡ record journal { spare = max journal.spare 30 } → hub.log ≡ log → IsHistoryOf hub.history no_facts → hub.clients ≡ no_clients → players_of hub.players ≡ no_players → hub.limits ≡ limits → hub.in_fault ≡ false
+          → FindsLogs g limits (Ok hub) site after
+      logs-both log hub opens is_journal is_log none idle free limited no_fault = record {
         unread = record {
-          journal = subst (λ (j : JournalView). j ≡ journal_opened j.length) (sym is_journal) (ap journal_of first.opened);
+          journal = is_journal
+              ∙ ap (λ (j : JournalView). let k : JournalView = record j { spare = max journal.spare 30 } in k) (ap journal_of first.opened)
+              ∙ (λ i. record (journal_opened ((ap (λ (j : JournalView). j.length) (sym is_journal)) i)) { spare = (ap (λ (j : JournalView). j.spare) (sym is_journal)) i });
+          room = omega (arith, ap (λ (j : JournalView). j.spare) is_journal);
           log = subst (λ (l : LogView). l ≡ just_opened CrmLog 16 l.length) (sym is_log) opens.opened;
           none = none;
           clients = idle;
+          players = free;
           limited = limited;
           in_fault = no_fault;
         };
-        journal = subst (λ (j : JournalView). LogStands g (log_of j) after) (sym is_journal) (stands-still (log_of journal) mid after (λ is. cc) opens.writes first.stands);
+        journal = stands_reserved g.told (g.shown after) (g.may_leave after) (log_of journal) (log_of hub.journal) (max journal.spare 30) (ap log_of is_journal) (stands-still g (log_of journal) mid after (λ is. cc) opens.writes first.stands);
         log = subst (λ (l : LogView). LogStands g l after) (sym is_log) opens.stands;
         headers = λ told. record { journal = first.header told; log = subst (λ (i : Image). HasHeader log_header i.crm_log) (still told) (opens.header told) };
         not_made = λ told is. absurd cc;

@@ -19,54 +19,64 @@ use Rattle.qc_machine.proofs.Bools.{and-both}
 use Rattle.qc_machine.proofs.Histories.{follow-push, limits-push}
 use Rattle.qc_hub.specs.declared.hub.Hub.{Hub}
 use Rattle.qc_hub.specs.Opening.{HasFacts, HasEnded, HasRead}
+use Rattle.qc_history.specs.Stands.{IsHistoryOf}
+use Rattle.qc_history.specs.Taking.{IsReadAs}
+use Rattle.qc_history.specs.View.{HistoryView}
 use Rattle.qc_hub.proofs.OpeningTaken.{and-false}
 
--- the groups up to where the journal stands are facts that the hub has
-pub record ReadSoFar (file : List ℕ) (hub : Hub) : Type 0 where
+-- The hub has what legal facts settle. Where the site tells, the groups up to where the journal stands are these.
+pub record ReadSoFar (told : Type 0) (file : List ℕ) (hub : Hub) (numbers : List ℕ) : Type 0 where
   pub facts : List Fact
-  pub front : LegalFront file hub.journal.place facts
-  pub has : HasFacts facts hub
+  pub legal : all_follow by_text no_facts facts ≡ true
+  pub has : HasFacts facts numbers hub
+  pub front : told → LegalFront file hub.journal.place facts
 
-pub read-none : (file : List ℕ) (hub : Hub) → hub.journal.place ≡ 16 → HasFacts [] hub → ReadSoFar file hub
-read-none file hub place none = record {
+pub read-none : (told : Type 0) (file : List ℕ) (hub : Hub) → hub.journal.place ≡ 16 → IsHistoryOf hub.history no_facts → ReadSoFar told file hub []
+read-none told file hub place none = record {
   facts = [];
-  front = record {
-    spelled = ap (λ (n : ℕ). groups_at file n) (sym place);
-    limits = refl;
-    legal = refl;
-    reached = place;
-  };
-  has = none;
+  legal = refl;
+  has = record { is = none; numbers = refl };
+  front = λ t. record { spelled = ap (λ (n : ℕ). groups_at file n) (sym place); limits = refl; legal = refl; reached = place };
 }
 
-pub read-more : (file : List ℕ) (hub new : Hub) (journal : JournalView) (at : ℕ) (fact : Fact) (so_far : ReadSoFar file hub) → NextFact file hub.journal journal at fact → goes_on by_text (history_of by_text so_far.facts) fact ≡ true → HasFacts (so_far.facts ++ fact ∷ []) new → new.journal ≡ journal → ReadSoFar file new
-read-more file hub new journal at fact so_far next goes has is =
-    let facts = so_far.facts in
-    let pushed = map-append fact_payload facts (fact ∷ []) in
-    let place : new.journal.place ≡ hub.journal.place + 9 + length (spelled_fact fact) = ap (λ (j : JournalView). j.place) (is ∙ next.journal) in
-    let place1 : journal.place ≡ new.journal.place = ap (λ (j : JournalView). j.place) (sym is) in
-    let sums = sum_by-append (λ (p : List ℕ). 5 + length p) (map fact_payload facts) (fact_payload fact ∷ []) in
-    record {
-      facts = facts ++ fact ∷ [];
-      front = record {
-        spelled = so_far.front.spelled
-            ∙ ap (λ (l : List (List ℕ)). map fact_payload facts ++ l) (next.next ∙ ap (λ (n : ℕ). fact_payload fact ∷ groups_at file n) place1)
-            ∙ sym (append_assoc (map fact_payload facts) (fact_payload fact ∷ []) (groups_at file new.journal.place))
-            ∙ ap (λ (l : List (List ℕ)). l ++ groups_at file new.journal.place) (sym pushed);
-        limits = limits-push facts fact so_far.front.limits next.limits;
-        legal = follow-push by_text no_facts facts fact ∙ and-both (all_follow by_text no_facts facts) _ so_far.front.legal (and-both (is_fact fact) _ next.limits goes);
-        reached = omega (arith, place, so_far.front.reached, sums, length-entry (spelled_fact fact), ap (λ (l : List (List ℕ)). sum_by (λ p. 5 + length p) l) pushed);
-      };
-      has = has;
-    }
+pub read-more : (told : Type 0) (file : List ℕ) (hub new : Hub) (journal : JournalView) (at : ℕ) (fact : Fact) (numbers more : List ℕ) (so_far : ReadSoFar told file hub numbers) → (told → NextFact file hub.journal journal at fact) → is_fact fact ≡ true → goes_on by_text (history_of by_text so_far.facts) fact ≡ true → HasFacts (so_far.facts ++ fact ∷ []) more new → new.journal ≡ journal
+    → ReadSoFar told file new more
+read-more told file hub new journal at fact numbers more so_far next limits goes has is = record {
+  facts = so_far.facts ++ fact ∷ [];
+  legal = legal;
+  has = has;
+  front = λ t. front (next t) (so_far.front t);
+}
+  where
+    facts : List Fact
+    facts = so_far.facts
+
+    legal : all_follow by_text no_facts (facts ++ fact ∷ []) ≡ true
+    legal = follow-push by_text no_facts facts fact ∙ and-both (all_follow by_text no_facts facts) _ so_far.legal (and-both (is_fact fact) _ limits goes)
+
+    front : NextFact file hub.journal journal at fact → LegalFront file hub.journal.place facts → LegalFront file new.journal.place (facts ++ fact ∷ [])
+    front there was =
+        let pushed = map-append fact_payload facts (fact ∷ []) in
+        let place : new.journal.place ≡ hub.journal.place + 9 + length (spelled_fact fact) = ap (λ (j : JournalView). j.place) (is ∙ there.journal) in
+        let place1 : journal.place ≡ new.journal.place = ap (λ (j : JournalView). j.place) (sym is) in
+        let sums = sum_by-append (λ (p : List ℕ). 5 + length p) (map fact_payload facts) (fact_payload fact ∷ []) in
+        record {
+          spelled = was.spelled
+              ∙ ap (λ (l : List (List ℕ)). map fact_payload facts ++ l) (there.next ∙ ap (λ (n : ℕ). fact_payload fact ∷ groups_at file n) place1)
+              ∙ sym (append_assoc (map fact_payload facts) (fact_payload fact ∷ []) (groups_at file new.journal.place))
+              ∙ ap (λ (l : List (List ℕ)). l ++ groups_at file new.journal.place) (sym pushed);
+          limits = limits-push facts fact was.limits limits;
+          legal = legal;
+          reached = omega (arith, place, was.reached, sums, length-entry (spelled_fact fact), ap (λ (l : List (List ℕ)). sum_by (λ p. 5 + length p) l) pushed);
+        }
 
 -- a fact that may not follow, and a group that is no fact
 
-pub not-next : (file : List ℕ) (hub : Hub) (journal : JournalView) (at : ℕ) (fact : Fact) (so_far : ReadSoFar file hub) → NextFact file hub.journal journal at fact → goes_on by_text (history_of by_text so_far.facts) fact ≡ false → DamagedJournal file at
-not-next file hub journal at fact so_far next refused = record {
+pub not-next : (told : Type 0) (file : List ℕ) (hub : Hub) (journal : JournalView) (at : ℕ) (fact : Fact) (numbers : List ℕ) (so_far : ReadSoFar told file hub numbers) → told → NextFact file hub.journal journal at fact → goes_on by_text (history_of by_text so_far.facts) fact ≡ false → DamagedJournal file at
+not-next told file hub journal at fact numbers so_far t next refused = record {
   facts = so_far.facts;
   place = hub.journal.place;
-  front = so_far.front;
+  front = so_far.front t;
   unfit = inr (record {
     fact = fact;
     rest = groups_at file journal.place;
@@ -77,8 +87,8 @@ not-next file hub journal at fact so_far next refused = record {
   });
 }
 
-pub no-fact : (file : List ℕ) (hub : Hub) (at : ℕ) → ReadSoFar file hub → DamagedFact file hub.journal.place at → DamagedJournal file at
-no-fact file hub at so_far bad = record { facts = so_far.facts; place = hub.journal.place; front = so_far.front; unfit = inl bad }
+pub no-fact : (told : Type 0) (file : List ℕ) (hub : Hub) (at : ℕ) (numbers : List ℕ) → ReadSoFar told file hub numbers → told → DamagedFact file hub.journal.place at → DamagedJournal file at
+no-fact told file hub at numbers so_far t bad = record { facts = so_far.facts; place = hub.journal.place; front = so_far.front t; unfit = inl bad }
 
 -- a log at its end
 
@@ -100,19 +110,31 @@ ended-at file now place size gate inside bytes same long =
       end_now = λ i. record { gate = gate_now i; size = end_now i };
     }
 
-pub read-end : (before now : Image) (hub new : Hub) → hub.journal.start ≡ 16 → hub.journal.place ≤ length before.journal → (so_far : ReadSoFar before.journal hub) → NoFact before.journal now.journal hub.journal new.journal → HasFacts so_far.facts new
-    → now ≡ record before { journal = now.journal } → HasRead before now new
-read-end before now hub new start inside so_far end has others =
-    let file = before.journal in
-    let spelled : groups file ≡ map fact_payload so_far.facts = so_far.front.spelled ∙ ap (λ (l : List (List ℕ)). map fact_payload so_far.facts ++ l) end.none ∙ append-nil (map fact_payload so_far.facts) in
-    let gate : hub.journal.place ≡ end_gate file = so_far.front.reached ∙ ap (λ (l : List (List ℕ)). 16 + sum_by (λ p. 5 + length p) l) (sym spelled) in
-    let place : hub.journal.place ≡ new.journal.place = ap (λ (j : JournalView). j.place) (sym end.journal) in
-    record {
-      facts = so_far.facts;
-      spelled = record { groups = spelled; limits = so_far.front.limits };
-      follow = so_far.front.legal;
-      has = has;
-      closed = others ∙ ap (λ (b : List ℕ). let c : Image = record before { journal = b } in c) (end.bytes ∙ ap (λ (n : ℕ). written file n (0 ∷ [])) gate);
-      ended = ended-at file now.journal new.journal.place new.journal.length (sym place ∙ gate) (omega (arith, place, inside)) (end.bytes ∙ ap (λ (n : ℕ). written file n (0 ∷ [])) place)
-          (subst (λ (n : ℕ). SameFrom n file now.journal) start end.same) (ap (λ (j : JournalView). j.length) end.journal);
-    }
+-- where the site tells, the journal was read to its end
+pub record IsAtEnd (before now : Image) (hub new : Hub) : Type 0 where
+  pub inside : hub.journal.place ≤ length before.journal
+  pub end : NoFact before.journal now.journal hub.journal new.journal
+  pub others : now ≡ record before { journal = now.journal }
+
+pub at-end : (before now : Image) (hub new : Hub) → hub.journal.place ≤ length before.journal → NoFact before.journal now.journal hub.journal new.journal → now ≡ record before { journal = now.journal } → IsAtEnd before now hub new
+at-end before now hub new inside end others = record { inside = inside; end = end; others = others }
+
+pub read-end : (told : Type 0) (before now : Image) (hub new : Hub) (numbers : List ℕ) → hub.journal.start ≡ 16 → (so_far : ReadSoFar told before.journal hub numbers) → new.history ≡ hub.history → (told → IsAtEnd before now hub new) → HasRead told before now new
+read-end told before now hub new numbers start so_far same end = record {
+  facts = so_far.facts;
+  numbers = numbers;
+  follow = so_far.legal;
+  has = subst (λ (v : HistoryView). IsReadAs v numbers (history_of by_text so_far.facts)) (sym same) so_far.has;
+  spelled = λ t. record { groups = spelled t; limits = (so_far.front t).limits };
+  closed = λ t. (end t).others ∙ ap (λ (b : List ℕ). let c : Image = record before { journal = b } in c) ((end t).end.bytes ∙ ap (λ (n : ℕ). written before.journal n (0 ∷ [])) (gate t));
+  ended = λ t.
+      let place : hub.journal.place ≡ new.journal.place = ap (λ (j : JournalView). j.place) (sym (end t).end.journal) in
+      ended-at before.journal now.journal new.journal.place new.journal.length (sym place ∙ gate t) (omega (arith, place, (end t).inside))
+      ((end t).end.bytes ∙ ap (λ (n : ℕ). written before.journal n (0 ∷ [])) place) (subst (λ (n : ℕ). SameFrom n before.journal now.journal) start (end t).end.same) (ap (λ (j : JournalView). j.length) (end t).end.journal);
+}
+  where
+    spelled : (t : told) → groups before.journal ≡ map fact_payload so_far.facts
+    spelled t = (so_far.front t).spelled ∙ ap (λ (l : List (List ℕ)). map fact_payload so_far.facts ++ l) (end t).end.none ∙ append-nil (map fact_payload so_far.facts)
+
+    gate : (t : told) → hub.journal.place ≡ end_gate before.journal
+    gate t = (so_far.front t).reached ∙ ap (λ (l : List (List ℕ)). 16 + sum_by (λ p. 5 + length p) l) (sym (spelled t))

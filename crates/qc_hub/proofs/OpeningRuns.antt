@@ -20,10 +20,9 @@ use Rattle.qc_machine.specs.declared.error.OpenError.{OpenError}
 use Rattle.qc_machine.specs.declared.error.OpenError.TheVariants.{SiteFault as site_fault, NotMade as not_made, NoCatalogue as no_first, Damaged as damaged, NoMemory as no_memory}
 use Rattle.qc_machine.specs.Opening.{DamagedJournal}
 use Rattle.qc_hub.specs.declared.hub.Hub.{Hub}
-use Rattle.qc_hub.specs.Opening.{in_journal, damage_at, IsUnread, HasFacts, TakesFact, ReadsFacts}
-use Rattle.qc_hub.specs.Stands.{AreNumbered}
+use Rattle.qc_hub.specs.Opening.{in_journal, damage_at, IsUnread, TakesFact, ReadsFacts}
 use Rattle.qc_hub.proofs.OpeningErrors.{by-fault, by-header, by-damage, no-first}
-use Rattle.qc_hub.proofs.OpeningRead.{ReadSoFar, place-inside, read-none, read-more, read-end, not-next, no-fact}
+use Rattle.qc_hub.proofs.OpeningRead.{ReadSoFar, at-end, place-inside, read-none, read-more, read-end, not-next, no-fact}
 
 -- the hub with the journal where it stands now
 abbrev pub at_place : Hub → JournalView → Hub
@@ -31,33 +30,33 @@ at_place hub journal = record hub { journal = journal }
 
 module _ {S : Type 0} (g : Ghosts S) where
   -- the facts up to the place of the journal were read since the run began
-  pub record Reading (begun site : S) (first hub : Hub) : Type 0 where
+  pub record Reading (begun site : S) (first hub : Hub) (numbers : List ℕ) : Type 0 where
     pub stands : LogStands g (log_of hub.journal) site
     pub whole : first.journal.start ≡ 16
     pub journal : hub.journal ≡ record first.journal { place = hub.journal.place }
-    pub numbered : AreNumbered hub.store.messages
-    pub few : hub.facts ≤ hub.journal.place
-    pub kept : hub ≡ record first { journal = hub.journal; catalogue = hub.catalogue; store = hub.store; tables = hub.tables; facts = hub.facts; last = hub.last }
+    pub few : hub.history.facts ≤ hub.journal.place
+    pub kept : hub ≡ record first { journal = hub.journal; history = hub.history }
     pub faults : g.faults begun ≤ g.faults site
     pub still : g.told → g.shown site ≡ g.shown begun
     pub left : g.told → LeavesOnly g.moment g.left_since begun site (After Journal (SameFrom first.journal.start) (g.may_leave begun))
-    pub read : g.told → ReadSoFar (g.shown begun).journal hub
+    pub read : ReadSoFar g.told (g.shown begun).journal hub numbers
 
-  pub begins : (site : S) (hub : Hub) → ((c : Image) → g.told → g.left_since site (g.moment site) c → g.may_leave site c) → LogStands g (log_of hub.journal) site → AreNumbered [] → IsUnread hub.limits hub → Reading site site hub hub
-  begins site hub now stands none unread = record {
-    stands = stands;
-    whole = ap (λ (j : JournalView). j.start) unread.journal;
-    journal = refl;
-    numbered = subst AreNumbered (sym unread.none.messages) none;
-    few = omega (arith, unread.none.counted);
-    kept = refl;
-    faults = omega arith;
-    still = λ told. refl;
-    left = λ told. started g.moment g.left_since site _ (λ c left. same_log Journal hub.journal.start (g.may_leave site) c (now c told left));
-    read = λ told. read-none (g.shown site).journal hub (ap (λ (j : JournalView). j.place) unread.journal) unread.none;
-  }
+  pub begins : (site : S) (hub : Hub) → ((c : Image) → g.told → g.left_since site (g.moment site) c → g.may_leave site c) → LogStands g (log_of hub.journal) site → IsUnread hub.limits hub → Reading site site hub hub []
+  begins site hub now stands unread =
+      let place : hub.journal.place ≡ 16 = ap (λ (j : JournalView). j.place) unread.journal in
+      record {
+        stands = stands;
+        whole = ap (λ (j : JournalView). j.start) unread.journal;
+        journal = refl;
+        few = omega (arith, unread.none.counted);
+        kept = refl;
+        faults = omega arith;
+        still = λ told. refl;
+        left = λ told. started g.moment g.left_since site _ (λ c left. same_log Journal hub.journal.start (g.may_leave site) c (now c told left));
+        read = read-none g.told (g.shown site).journal hub place unread.none;
+      }
 
-  module _ (begun site after : S) (first hub : Hub) (journal : JournalView) (so_far : Reading begun site first hub) (counts : (t : ℕ) (c : Image) → g.told → t ≤ g.moment site → g.may_leave site c → g.left_since site t c) where
+  module _ (begun site after : S) (first hub : Hub) (numbers : List ℕ) (journal : JournalView) (so_far : Reading begun site first hub numbers) (counts : (t : ℕ) (c : Image) → g.told → t ≤ g.moment site → g.may_leave site c → g.left_since site t c) where
     same_start : hub.journal.start ≡ first.journal.start
     same_start = ap (λ (j : JournalView). j.start) so_far.journal
 
@@ -67,26 +66,32 @@ module _ {S : Type 0} (g : Ghosts S) where
         keeps_on g (log_of first.journal) failed then begun site after to back counts so_far.still so_far.faults so_far.left
         (subst (λ (n : ℕ). KeepsGroups g (log_of (record hub.journal { start = n })) then site after) same_start keeps)
 
-    run-kept : (new : Hub) → new ≡ record (at_place hub journal) { catalogue = new.catalogue; store = new.store; tables = new.tables; facts = new.facts; last = new.last } → new ≡ record first { journal = new.journal; catalogue = new.catalogue; store = new.store; tables = new.tables; facts = new.facts; last = new.last }
+    -- the hub has other facts
+    run-kept : (new : Hub) → new ≡ record (at_place hub journal) { history = new.history } → new ≡ record first { journal = new.journal; history = new.history }
     run-kept new is =
-        is ∙ ap (λ (h : Hub). let n : Hub = record h { journal = journal; catalogue = new.catalogue; store = new.store; tables = new.tables; facts = new.facts; last = new.last } in n) so_far.kept
-        ∙ ap (λ (j : JournalView). let n : Hub = record first { journal = j; catalogue = new.catalogue; store = new.store; tables = new.tables; facts = new.facts; last = new.last } in n) (sym (ap (λ (h : Hub). h.journal) is))
+        is ∙ ap (λ (h : Hub). let n : Hub = record h { journal = journal; history = new.history } in n) so_far.kept
+        ∙ ap (λ (j : JournalView). let n : Hub = record first { journal = j; history = new.history } in n) (sym (ap (λ (h : Hub). h.journal) is))
+
+    -- and so it is told at the end of the run
+    run-said : (new : Hub) → new ≡ record first { journal = new.journal; history = new.history } → new ≡ record first { journal = new.journal; history = new.history; last = new.last }
+    run-said new is = is ∙ (λ i. record first { journal = new.journal; history = new.history; last = (sym (ap (λ (h : Hub). h.last) is)) i })
 
     -- the journal couldn't be read on
     pub run-stopped : (e : LogError) → FindsFact g (Err e) hub.journal site journal after → ReadsOn g {A = Option (ℕ × Fact)} (DamagedFact (g.shown site).journal hub.journal.place) (Err e) (log_of hub.journal) site (log_of journal) after
         → ReadsFacts g (Err (in_journal e)) first begun (at_place hub journal) after
     run-stopped e finds reads = record {
-      kept = run-kept (at_place hub journal) refl;
+      kept = run-said (at_place hub journal) (run-kept (at_place hub journal) refl);
       journal = tt;
       stands = tt;
-      numbered = tt;
-      read = λ told. tt;
+      counted = tt;
+      last = tt;
+      read = tt;
       damaged = λ told d is.
           let same : in_journal e ≡ damaged d = cc in
           let by = by-damage damage_at e d same in
           let here : DamagedFact (g.shown site).journal hub.journal.place by.0 = reads.damaged told by.0 (ap Err by.1) in
           let there : DamagedFact (g.shown begun).journal hub.journal.place by.0 = subst (λ (i : Image). DamagedFact i.journal hub.journal.place by.0) (so_far.still told) here in
-          (ap (λ (x : Damage). x.file) by.2, subst (λ (n : ℕ). DamagedJournal (g.shown begun).journal n) (sym (ap (λ (x : Damage). x.at) by.2)) (no-fact (g.shown begun).journal hub by.0 (so_far.read told) there));
+          (ap (λ (x : Damage). x.file) by.2, subst (λ (n : ℕ). DamagedJournal (g.shown begun).journal n) (sym (ap (λ (x : Damage). x.at) by.2)) (no-fact g.told (g.shown begun).journal hub by.0 numbers so_far.read told there));
       not_made = λ is. let same : in_journal e ≡ not_made = cc in reads.not_made (ap Err (by-header damage_at e same));
       not_empty = λ is. let same : in_journal e ≡ no_first = cc in no-first damage_at e same;
       unchanged = λ told err fine. reads.unchanged told err (λ is. let same : e ≡ SiteFault = cc in fine (ap (λ x. Err (in_journal x)) same)) ∙ so_far.still told;
@@ -94,10 +99,7 @@ module _ {S : Type 0} (g : Ghosts S) where
     }
 
     -- a fact was found
-    module _ (at : ℕ) (fact : Fact) (finds : FindsFact g (Ok (Some (at, fact))) hub.journal site journal after) (reads : ReadsOn g {A = Option (ℕ × Fact)} (DamagedFact (g.shown site).journal hub.journal.place) (Ok (Some (at, fact))) (log_of hub.journal) site (log_of journal) after) (new : Hub) where
-      mid_facts : (facts : List Fact) → HasFacts facts hub → HasFacts facts (at_place hub journal)
-      mid_facts facts h = record { catalogue = h.catalogue; messages = h.messages; tables = h.tables; counted = h.counted; last = h.last }
-
+    module _ (at : ℕ) (fact : Fact) (finds : FindsFact g (Ok (Some (at, fact))) hub.journal site journal after) (reads : ReadsOn g {A = Option (ℕ × Fact)} (DamagedFact (g.shown site).journal hub.journal.place) (Ok (Some (at, fact))) (log_of hub.journal) site (log_of journal) after) (new : Hub) (more : List ℕ) where
       next : g.told → NextFact (g.shown begun).journal hub.journal journal at fact
       next told = subst (λ (i : Image). NextFact i.journal hub.journal journal at fact) (so_far.still told) (finds.fact told)
 
@@ -105,20 +107,21 @@ module _ {S : Type 0} (g : Ghosts S) where
       moments told = (run-keeps _ _ (λ is. is) (λ is. is) reads.keeps).any_moment told
 
       -- but it may not follow, or there is no memory
-      pub run-refused : (e : OpenError) → TakesFact at fact (Err e) (at_place hub journal) new → ReadsFacts g (Err e) first begun new after
+      pub run-refused : (e : OpenError) → TakesFact at fact (Err e) (at_place hub journal) numbers new more → ReadsFacts g (Err e) first begun new after
       run-refused e takes = record {
-        kept = run-kept new takes.kept;
+        kept = run-said new (run-kept new takes.kept);
         journal = tt;
         stands = tt;
-        numbered = tt;
-        read = λ told. tt;
+        counted = tt;
+        last = tt;
+        read = tt;
         damaged = λ told d is. ⊎_elim
             (λ none. absurd (let same : Err (damaged d) ≡ Err no_memory = sym is ∙ none in cc))
             (λ bad.
             let same : damage_at at ≡ d = let both : Err (damaged (damage_at at)) ≡ Err (damaged d) = sym bad.0 ∙ is in cc in (
               ap (λ (x : Damage). x.file) (sym same),
               subst (λ (x : Damage). DamagedJournal (g.shown begun).journal x.at) same
-                  (not-next (g.shown begun).journal hub journal at fact (so_far.read told) (next told) (bad.1 (so_far.read told).facts (mid_facts (so_far.read told).facts (so_far.read told).has))),
+                  (not-next g.told (g.shown begun).journal hub journal at fact numbers so_far.read told (next told) (bad.1 so_far.read.facts so_far.read.has)),
             ))
             takes.refused;
         not_made = λ is. ⊎_elim (λ none. let same : Err not_made ≡ Err no_memory = sym is ∙ none in cc) (λ bad. let same : Err not_made ≡ Err (damaged (damage_at at)) = sym is ∙ bad.0 in cc) takes.refused;
@@ -131,45 +134,42 @@ module _ {S : Type 0} (g : Ghosts S) where
           no_fault is = ⊎_elim (λ none. let same : Err site_fault ≡ Err no_memory = sym is ∙ none in cc) (λ bad. let same : Err site_fault ≡ Err (damaged (damage_at at)) = sym is ∙ bad.0 in cc) takes.refused
 
       -- and is taken
-      pub run-on : (done : Unit {0}) → TakesFact at fact (Ok done) (at_place hub journal) new → Reading begun after first new
+      pub run-on : (done : Unit {0}) → TakesFact at fact (Ok done) (at_place hub journal) numbers new more → Reading begun after first new more
       run-on done takes =
           let same : new.journal ≡ journal = ap (λ (h : Hub). h.journal) takes.kept in
+          let goes = takes.taken so_far.read.facts so_far.read.has in
           record {
             stands = subst (λ (j : JournalView). LogStands g (log_of j) after) (sym same) reads.stands;
             whole = so_far.whole;
             journal = same ∙ finds.moved ∙ (λ i. record ((so_far.journal) i) { place = journal.place }) ∙ (λ i. record first.journal { place = ((sym same) i).place });
-            numbered = takes.numbered;
             few = omega (arith, takes.counted, so_far.few, finds.onward.0, ap (λ (j : JournalView). j.place) same);
             kept = run-kept new takes.kept;
             faults = omega (arith, so_far.faults, reads.keeps.cause.no_fewer);
             still = λ told. finds.still told ∙ so_far.still told;
             left = moments;
-            read = λ told.
-                let was = so_far.read told in
-                let goes = takes.taken was.facts (mid_facts was.facts was.has) in
-                read-more (g.shown begun).journal hub new journal at fact was (next told) goes.0 goes.1 same;
+            read = read-more g.told (g.shown begun).journal hub new journal at fact numbers more so_far.read next finds.limits goes.0 goes.1 same;
           }
 
     -- the journal was read to its end
-    pub run-ended : (done : Unit {0}) → FindsFact g (Ok None) hub.journal site journal after → ReadsOn g {A = Option (ℕ × Fact)} (DamagedFact (g.shown site).journal hub.journal.place) (Ok None) (log_of hub.journal) site (log_of journal) after
-        → ReadsFacts g (Ok done) first begun (at_place hub journal) after
-    run-ended done finds reads =
+    pub run-ended : (done : Unit {0}) (last : ℕ) → last ≡ hub.history.last → FindsFact g (Ok None) hub.journal site journal after → ReadsOn g {A = Option (ℕ × Fact)} (DamagedFact (g.shown site).journal hub.journal.place) (Ok None) (log_of hub.journal) site (log_of journal) after
+        → ReadsFacts g (Ok done) first begun (record hub { journal = journal; last = last }) after
+    run-ended done last is_last finds reads =
+        let new : Hub = record hub { journal = journal; last = last } in
         let keeps = run-keeps (IsErrOf (Ok done) site_fault) _ (λ is. absurd cc) (λ is. absurd cc) reads.keeps in
         record {
-          kept = run-kept (at_place hub journal) refl;
+          kept = ap (λ (h : Hub). let n : Hub = record h { journal = journal; last = last } in n) so_far.kept;
           journal = finds.ended ∙ (λ i. record ((so_far.journal) i) { length = journal.length; ended = true }) ∙ (λ i. record first.journal { place = (ap (λ (j : JournalView). j.place) (sym finds.ended)) i; length = journal.length; ended = true });
           stands = reads.stands;
-          numbered = so_far.numbered;
-          read = λ told.
-              let was = so_far.read told in
+          counted = omega (arith, so_far.few, ap (λ (j : JournalView). j.place) finds.ended);
+          last = is_last;
+          read = read-end g.told (g.shown begun) (g.shown after) hub new numbers (same_start ∙ so_far.whole) so_far.read refl (λ told.
               let st = so_far.stands told in
               let before = g.shown begun in
               let now = g.shown after in
               let inside : hub.journal.place ≤ length before.journal = subst (λ (i : Image). hub.journal.place ≤ length i.journal) (so_far.still told) (place-inside (g.shown site).journal (g.may_leave site) (log_of hub.journal) st) in
               let end : NoFact before.journal now.journal hub.journal journal = subst (λ (i : Image). NoFact i.journal now.journal hub.journal journal) (so_far.still told) (finds.end told) in
               let others : now ≡ with_bytes Journal now.journal before = step_others Journal (SameFrom first.journal.start) before now (keeps.shown told (λ is. absurd cc)) in
-              read-end before now hub (at_place hub journal) (same_start ∙ so_far.whole) inside was end
-              (record { catalogue = was.has.catalogue; messages = was.has.messages; tables = was.has.tables; counted = was.has.counted; last = was.has.last }) others;
+              at-end before now hub new inside end others);
           damaged = λ told d is. absurd cc;
           not_made = λ is. absurd cc;
           not_empty = λ is. absurd cc;

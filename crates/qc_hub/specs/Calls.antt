@@ -1,8 +1,9 @@
 -- What a call of the hub is given, and what it leaves of the hub and its site. `g` has the members of the site's trait.
-use Rattle.std.specs.Prelude.{◌≡◌, ◌⊎◌, ℕ, [], ◌∷◌, max, List, true, false, IfOk, IfErr, OnOk, OnErr, IsErr, IsErrOf, Ok, Err}
+use Rattle.std.specs.Prelude.{◌≡◌, ◌⊎◌, ◌<◌, ◌≤◌, ℕ, [], ◌∷◌, max, List, Bool, true, false, IfOk, IfErr, OnOk, OnErr, IsErr, IsErrOf, Ok, Err}
 use Rattle.std.specs.declared.result.Result.{Result}
+use Rattle.qc_base.specs.declared.fact.Fact.{Fact}
 use Rattle.qc_protocol.specs.declared.order.Order.{Order}
-use Rattle.qc_protocol.specs.declared.order.Act.TheVariants.{OpenSlot, CallSlot, CommitSlot, CancelSlot, Send, Queues, Table}
+use Rattle.qc_protocol.specs.declared.order.Act.TheVariants.{OpenSlot, CallSlot, CommitSlot, CancelSlot, Send, Take, Work, End, Phase, Play, Switch, Queues, Table, Outside}
 use Rattle.qc_protocol.specs.declared.order.RawCall.{RawCall}
 use Rattle.qc_protocol.specs.declared.reply.Reply.{Reply}
 use Rattle.qc_protocol.specs.declared.reply.Reply.TheVariants.{Refused as ReplyRefused}
@@ -17,7 +18,9 @@ use Rattle.qc_site.specs.Disk.{LeavesOnly, written}
 use Rattle.qc_frame.specs.Frame.{groups}
 use Rattle.qc_frame.specs.Log.{LogView}
 use Rattle.qc_frame.specs.Calls.{LogStands}
+use Rattle.qc_journal.specs.Calls.{AppendsFact}
 use Rattle.qc_journal.specs.Journal.{log_of}
+use Rattle.qc_history.specs.Adding.{SetsAside}
 use Rattle.qc_frame.specs.declared.error.Damage.{Damage}
 use Rattle.qc_machine.specs.declared.error.OpenError.{OpenError}
 use Rattle.qc_machine.specs.declared.error.OpenError.TheVariants.{SiteFault as open_fault, NotMade, NoCatalogue, Damaged, NoMemory as open_memory}
@@ -30,7 +33,8 @@ use Rattle.qc_machine.specs.Sites.{HasHeaders, IsKept, ReadsAs, IsSiteOf, Stays,
 use Rattle.qc_hub.specs.declared.error.HubError.{HubError}
 use Rattle.qc_hub.specs.declared.error.HubError.TheVariants.{SiteFault, NoMemory}
 use Rattle.qc_hub.specs.declared.hub.Hub.{Hub}
-use Rattle.qc_hub.specs.Stands.{IsHubOf, IsHubOn, AreNumbered, StepsTo}
+use Rattle.qc_hub.specs.Rooms.{SameBut}
+use Rattle.qc_hub.specs.Stands.{IsHubOf, IsHubOn, StepsTo}
 
 -- orders, by what a method is given
 
@@ -49,11 +53,32 @@ cancelling at client = record { at = at; act = CancelSlot client }
 abbrev pub sending : ℕ → List ℕ → List ℕ → List RawCall → Order
 sending at app component calls = record { at = at; act = Send app component calls }
 
+abbrev pub taking : ℕ → ℕ → List ℕ → Order
+taking at player app = record { at = at; act = Take player app }
+
+abbrev pub working : ℕ → ℕ → Order
+working at player = record { at = at; act = Work player }
+
+abbrev pub ending : ℕ → ℕ → Order
+ending at player = record { at = at; act = End player }
+
+abbrev pub finishing : ℕ → ℕ → Order
+finishing at player = record { at = at; act = Phase player }
+
+abbrev pub playing : ℕ → ℕ → List ℕ → Order
+playing at player app = record { at = at; act = Play player app }
+
+abbrev pub switching : ℕ → List ℕ → Bool → Order
+switching at app on = record { at = at; act = Switch app on }
+
 abbrev pub listing : ℕ → List ℕ → Order
 listing at app = record { at = at; act = Queues app }
 
 abbrev pub showing : ℕ → List ℕ → Order
 showing at table = record { at = at; act = Table table }
+
+abbrev pub outside_of : ℕ → List ℕ → Order
+outside_of at resource = record { at = at; act = Outside resource }
 
 -- a log of compensations that was read to its end, which is its start
 pub record IsUnused (log : LogView) : Type 0 where
@@ -93,9 +118,10 @@ abbrev pub unrecorded : RecordError → Result Reply HubError
 unrecorded (RecordRefused refusal) = Ok (ReplyRefused refusal)
 unrecorded RecordMemory = Err NoMemory
 
--- nothing but the last moment and the clients' recorders is another
+-- nothing but the last moment and what clients and players hold is another
 pub record KeepsSite (s t : State) : Type 0 where
   pub history : t.history ≡ s.history
+  pub rows : t.rows ≡ s.rows
   pub journal : t.journal ≡ s.journal
   pub log : t.log ≡ s.log
 
@@ -105,23 +131,33 @@ pub record StepsAlone (s : State) (t : Step) (new : Hub) (reply : Reply) : Type 
   pub is_in : IsHubOf new t.state
   pub keeps : KeepsSite s t.state
 
--- A call takes this step without its site, whatever state the hub is in. In want of memory it changes nothing but the
--- last moment seen.
+-- the hub is at a later moment, and the same but for its room
+pub record HasMoved (at : ℕ) (hub new : Hub) : Type 0 where
+  pub in_time : max at hub.last ≤ 1000000000000
+  pub same : SameBut (record hub { last = max at hub.last }) new
+
+-- nothing but room and the last moment is another
+abbrev pub MovesOnly : ℕ → Hub → Hub → Type 0
+MovesOnly at hub new = SameBut hub new ⊎ HasMoved at hub new
+
+-- A call takes this step without its site, whatever state the hub is in. It settles nothing. In want of memory it
+-- changes nothing but the last moment seen.
 pub record StepsInMemory (at : ℕ) (by : State → Step) (result : Result Reply HubError) (hub new : Hub) : Type 0 where
   pub told : (s : State) → IsHubOf hub s → IfOk result (StepsAlone s (by s) new)
-  pub starved : OnErr result ((result ≡ Err NoMemory) × ((new ≡ hub) ⊎ (new ≡ record hub { last = max at hub.last })))
-  pub kept : new ≡ record hub { clients = new.clients; last = new.last }
+  pub starved : OnErr result ((result ≡ Err NoMemory) × MovesOnly at hub new)
+  pub aside : SetsAside hub.history new.history
+  pub kept : new ≡ record hub { history = new.history; clients = new.clients; players = new.players; last = new.last }
 
 module _ {S : Type 0} (g : Ghosts S) where
-  -- The logs of the hub stand on its site at their ends, and where the site tells, the hub is in a state of the site.
+  -- The logs of the hub stand on its site at their ends, and the hub is in a state, which is one of the site where that
+  -- tells.
   pub record StandsSound (hub : Hub) (site : S) : Type 0 where
     pub journal : LogStands g (log_of hub.journal) site
     pub whole : hub.journal.start ≡ 16
     pub ended : hub.journal.ended ≡ true
     pub log : LogStands g hub.log site
     pub unused : IsUnused hub.log
-    pub numbered : AreNumbered hub.store.messages
-    pub state : g.told → IsHubOn (g.shown site) hub
+    pub state : IsHubOn g.told (g.shown site) hub
 
   -- The hub stands on its site: it is sound there, or in fault, and then a crash leaves a history.
   pub record HubStands (hub : Hub) (site : S) : Type 0 where
@@ -141,6 +177,13 @@ module _ {S : Type 0} (g : Ghosts S) where
     pub hurt : failed → new.in_fault ≡ true
     pub unhurt : new.in_fault ≡ true → failed ⊎ (hub.in_fault ≡ true)
     pub cause : HasCause (g.faults site) (g.faults after) failed
+
+  -- A call adds the fact to the journal, and changes nothing else. Or the site failed, and the hub is in fault.
+  pub record Appends (fact : Fact) (result : Result (Unit {0}) HubError) (hub : Hub) (site : S) (new : Hub) (after : S) : Type 0 where
+    pub appends : AppendsFact g fact result hub.journal site new.journal after
+    pub failed : OnErr result ((result ≡ Err SiteFault) × (new ≡ record hub { journal = new.journal; in_fault = true }))
+    pub kept : OnOk result (new ≡ record hub { journal = new.journal })
+    pub few : OnOk result (hub.history.facts < 18446744073709551615)
 
   -- A call in want of memory changes nothing but the last moment seen, and no crash in its midst leaves more.
   pub record Starves (s : State) (at : ℕ) (site : S) (new : Hub) (after : S) : Type 0 where

@@ -1,4 +1,6 @@
 pub mod Calls
 pub mod Opening
+pub mod Outside
 pub mod Rooms
 pub mod Stands
+pub mod Taking

@@ -1,5 +1,5 @@
 -- How far an opening has come.
-use Rattle.std.specs.Prelude.{◌≡◌, ◌≢◌, ◌⊎◌, ℕ, ◌+◌, nat_le, Bool, ◌&&◌, ◌==◌, List, [], ◌∷◌, ◌++◌, length, true, false, IfOk, OnOk, OnErr, IsErr, IsErrOf, Err}
+use Rattle.std.specs.Prelude.{◌≡◌, ◌≢◌, ◌⊎◌, ℕ, ◌+◌, ◌≤◌, Bool, List, [], ◌∷◌, ◌++◌, true, false, IfOk, OnOk, OnErr, IsErr, IsErrOf, Err}
 use Rattle.std.specs.declared.result.Result.{Result}
 use Rattle.qc_base.specs.declared.fact.Fact.{Fact}
 use Rattle.qc_site.specs.declared.site.Site.{Ghosts}
@@ -13,17 +13,17 @@ use Rattle.qc_frame.specs.Log.{SameLog, just_opened}
 use Rattle.qc_journal.specs.History.{SpellsHistory}
 use Rattle.qc_journal.specs.Journal.{log_of, journal_opened}
 use Rattle.qc_frame.specs.declared.error.Damage.{Damage}
-use Rattle.qc_catalogue.specs.declared.error.CatalogueError.{CatalogueError}
-use Rattle.qc_catalogue.specs.declared.error.CatalogueError.TheVariants.{NoMemory as OutOfMemory}
+use Rattle.qc_history.specs.Stands.{IsHistoryOf}
+use Rattle.qc_history.specs.Taking.{IsReadAs}
 use Rattle.qc_machine.specs.declared.error.OpenError.{OpenError}
 use Rattle.qc_machine.specs.declared.error.OpenError.TheVariants.{SiteFault as site_fault, NotMade as not_made, NoCatalogue as no_first, Damaged as damaged, NoMemory as no_memory}
 use Rattle.qc_machine.specs.declared.limits.Limits.{Limits}
 use Rattle.qc_machine.specs.History.{by_text, no_facts, history_of, goes_on, all_follow}
 use Rattle.qc_machine.specs.Opening.{DamagedJournal}
-use Rattle.qc_machine.specs.Sites.{HasHeaders, file_end, no_clients}
+use Rattle.qc_machine.specs.Sites.{HasHeaders, file_end, no_clients, no_players}
+use Rattle.qc_players.specs.Players.{players_of}
 use Rattle.qc_hub.specs.declared.hub.Hub.{Hub}
 use Rattle.qc_hub.specs.Calls.{with_closed_gate, with_closed_journal}
-use Rattle.qc_hub.specs.Stands.{AreNumbered}
 
 -- an entry of the journal
 abbrev pub damage_at : ℕ → Damage
@@ -47,25 +47,18 @@ in_journal = as_open_error damage_at
 abbrev pub in_log : LogError → OpenError
 in_log = as_open_error (λ at. log_used)
 
--- a text that is no catalogue damages the entry at this offset
-abbrev pub in_catalogue : ℕ → CatalogueError → OpenError
-in_catalogue at OutOfMemory = no_memory
-in_catalogue at _ = damaged (damage_at at)
-
--- the hub has what these facts settle
-pub record HasFacts (facts : List Fact) (hub : Hub) : Type 0 where
-  pub catalogue : hub.catalogue ≡ (history_of by_text facts).catalogue
-  pub messages : hub.store.messages ≡ (history_of by_text facts).messages
-  pub tables : hub.tables ≡ (history_of by_text facts).tables
-  pub counted : hub.facts ≡ length facts
-  pub last : hub.last ≡ (history_of by_text facts).last
+-- the hub has what these facts settle, beside the numbers of their attempts
+abbrev pub HasFacts : List Fact → List ℕ → Hub → Type 0
+HasFacts facts numbers hub = IsReadAs hub.history numbers (history_of by_text facts)
 
 -- a hub that stands before the first groups of its logs
 pub record IsUnread (limits : Limits) (hub : Hub) : Type 0 where
-  pub journal : hub.journal ≡ journal_opened hub.journal.length
+  pub journal : hub.journal ≡ record (journal_opened hub.journal.length) { spare = hub.journal.spare }
+  pub room : 30 ≤ hub.journal.spare
   pub log : hub.log ≡ just_opened CrmLog 16 hub.log.length
-  pub none : HasFacts [] hub
+  pub none : IsHistoryOf hub.history no_facts
   pub clients : hub.clients ≡ no_clients
+  pub players : players_of hub.players ≡ no_players
   pub limited : hub.limits ≡ limits
   pub in_fault : hub.in_fault ≡ false
 
@@ -73,21 +66,16 @@ pub record IsUnread (limits : Limits) (hub : Hub) : Type 0 where
 abbrev pub follows : List Fact → Fact → Bool
 follows facts fact = goes_on by_text (history_of by_text facts) fact
 
--- whether a message is sent next with this id and at this moment, by what a hub has
-abbrev pub is_sent_next : Hub → ℕ → ℕ → Bool
-is_sent_next hub id at = (nat_le 1 hub.facts && nat_le hub.last at) && (id == length hub.store.messages + 1)
-
 -- damage at this offset is told of a fact that doesn't follow those that the hub has
-abbrev pub IsRefused : ℕ → Fact → Result (Unit {0}) OpenError → Hub → Type 0
-IsRefused at fact result hub = (result ≡ Err (damaged (damage_at at))) × ((facts : List Fact) → HasFacts facts hub → follows facts fact ≡ false)
+abbrev pub IsRefused : ℕ → Fact → Result (Unit {0}) OpenError → Hub → List ℕ → Type 0
+IsRefused at fact result hub numbers = (result ≡ Err (damaged (damage_at at))) × ((facts : List Fact) → HasFacts facts numbers hub → follows facts fact ≡ false)
 
 -- A hub goes on with a fact, whose entry has this offset, where it may follow those before it.
-pub record TakesFact (at : ℕ) (fact : Fact) (result : Result (Unit {0}) OpenError) (hub new : Hub) : Type 0 where
-  pub taken : OnOk result ((facts : List Fact) → HasFacts facts hub → (follows facts fact ≡ true) × HasFacts (facts ++ fact ∷ []) new)
-  pub refused : OnErr result ((result ≡ Err no_memory) ⊎ IsRefused at fact result hub)
-  pub counted : OnOk result (new.facts ≡ hub.facts + 1)
-  pub numbered : OnOk result (AreNumbered new.store.messages)
-  pub kept : new ≡ record hub { catalogue = new.catalogue; store = new.store; tables = new.tables; facts = new.facts; last = new.last }
+pub record TakesFact (at : ℕ) (fact : Fact) (result : Result (Unit {0}) OpenError) (hub : Hub) (numbers : List ℕ) (new : Hub) (more : List ℕ) : Type 0 where
+  pub taken : OnOk result ((facts : List Fact) → HasFacts facts numbers hub → (follows facts fact ≡ true) × HasFacts (facts ++ fact ∷ []) more new)
+  pub refused : OnErr result ((result ≡ Err no_memory) ⊎ IsRefused at fact result hub numbers)
+  pub counted : OnOk result (new.history.facts ≡ hub.history.facts + 1)
+  pub kept : new ≡ record hub { history = new.history }
 
 -- a log was read to its end, where its gate is closed, and stands there
 pub record HasEnded (file now : List ℕ) (place size : ℕ) : Type 0 where
@@ -95,14 +83,16 @@ pub record HasEnded (file now : List ℕ) (place size : ℕ) : Type 0 where
   pub end : file_end file ≡ record { gate = place; size = size }
   pub end_now : file_end now ≡ record { gate = place; size = size }
 
--- the hub has read the whole journal, and has what its facts settle
-pub record HasRead (before now : Image) (hub : Hub) : Type 0 where
+-- The hub has read the whole journal, and has what its facts settle. Where the site tells, these are the facts that it
+-- shows.
+pub record HasRead (told : Type 0) (before now : Image) (hub : Hub) : Type 0 where
   pub facts : List Fact
-  pub spelled : SpellsHistory before.journal facts
+  pub numbers : List ℕ
   pub follow : all_follow by_text no_facts facts ≡ true
-  pub has : HasFacts facts hub
-  pub closed : now ≡ with_closed_journal before
-  pub ended : HasEnded before.journal now.journal hub.journal.place hub.journal.length
+  pub has : HasFacts facts numbers hub
+  pub spelled : told → SpellsHistory before.journal facts
+  pub closed : told → now ≡ with_closed_journal before
+  pub ended : told → HasEnded before.journal now.journal hub.journal.place hub.journal.length
 
 -- the hub has found the log of compensations without groups
 pub record HasReadLog (before now : Image) (hub : Hub) : Type 0 where
@@ -124,11 +114,12 @@ module _ {S : Type 0} (g : Ghosts S) where
 
   -- A call that reads the journal to its end.
   pub record ReadsFacts (result : Result (Unit {0}) OpenError) (hub : Hub) (site : S) (new : Hub) (after : S) : Type 0 where
-    pub kept : new ≡ record hub { journal = new.journal; catalogue = new.catalogue; store = new.store; tables = new.tables; facts = new.facts; last = new.last }
+    pub kept : new ≡ record hub { journal = new.journal; history = new.history; last = new.last }
     pub journal : OnOk result (new.journal ≡ record hub.journal { place = new.journal.place; length = new.journal.length; ended = true })
     pub stands : OnOk result (LogStands g (log_of new.journal) after)
-    pub numbered : OnOk result (AreNumbered new.store.messages)
-    pub read : g.told → OnOk result (HasRead (g.shown site) (g.shown after) new)
+    pub counted : OnOk result (new.history.facts ≤ new.journal.place)
+    pub last : OnOk result (new.last ≡ new.history.last)
+    pub read : OnOk result (HasRead g.told (g.shown site) (g.shown after) new)
     pub damaged : g.told → (d : Damage) → IsErrOf result (damaged d) → (d.file ≡ Journal) × DamagedJournal (g.shown site).journal d.at
     pub not_made : ¬ IsErrOf result not_made
     pub not_empty : ¬ IsErrOf result no_first

@@ -1,31 +1,42 @@
--- Room for a message.
-use Rattle.std.specs.Prelude.{◌≡◌, ◌≤◌, ℕ, ◌+◌, nat_le, not, Option, None, IfOk, OnErr, Err}
+-- Room that a hub takes, and what is refused for want of it.
+use Rattle.std.specs.Prelude.{◌≡◌, ◌≤◌, ℕ, ◌+◌, [], ◌∷◌, length, Option, Some, None, IfOk, OnErr, Err, if◌then◌else◌}
 use Rattle.std.specs.declared.result.Result.{Result}
+use Rattle.qc_base.specs.declared.recording.Recording.{Recording}
+use Rattle.qc_base.specs.Spelling.{is_attempt, spelled_recording}
 use Rattle.qc_protocol.specs.declared.reply.Refusal.{Refusal}
-use Rattle.qc_protocol.specs.declared.reply.Refusal.TheVariants.{Full}
-use Rattle.qc_machine.specs.Refuse.{refuse_if}
+use Rattle.qc_history.specs.Adding.{HasRoomFor, SetsAside}
+use Rattle.qc_machine.specs.Attempts.{next_attempt}
+use Rattle.qc_machine.specs.Refuse.{first_some}
+use Rattle.qc_machine.specs.Sending.{too_many, no_room_for}
+use Rattle.qc_machine.specs.State.{State}
 use Rattle.qc_hub.specs.declared.error.HubError.{HubError}
 use Rattle.qc_hub.specs.declared.error.HubError.TheVariants.{NoMemory}
 use Rattle.qc_hub.specs.declared.hub.Hub.{Hub}
+use Rattle.qc_hub.specs.Stands.{IsHubOf}
 
--- Full, where the journal has no room for the fact of a message whose recording has a spelling of this size
-abbrev pub full_for : ℕ → Hub → Option Refusal
-full_for size hub = refuse_if (not (nat_le (hub.journal.length + (9 + (19 + size))) hub.limits.log_bytes)) (Full hub.journal.length)
+-- the number of the next attempt, where it is one
+abbrev pub attempt_number : State → Option ℕ
+attempt_number s = if is_attempt (next_attempt s) then Some (next_attempt s) else None
 
--- memory was taken for such a message
-pub record HasRoom (size : ℕ) (hub : Hub) : Type 0 where
-  pub store : 1 ≤ hub.store.room
-  pub journal : 23 + size ≤ hub.journal.spare
-
--- the hub is the same but for its room
+-- the hub is the same but for its room, which isn't less
 pub record SameBut (hub new : Hub) : Type 0 where
-  pub messages : new.store.messages ≡ hub.store.messages
+  pub history : SetsAside hub.history new.history
   pub journal : new.journal ≡ record hub.journal { spare = new.journal.spare }
-  pub others : new ≡ record hub { store = new.store; journal = new.journal }
+  pub room : hub.journal.spare ≤ new.journal.spare
+  pub others : new ≡ record hub { history = new.history; journal = new.journal }
 
--- A call takes all memory for a message whose recording has a spelling of this size, where the journal has room for it.
-pub record MakesRoom (size : ℕ) (result : Result (Option Refusal) HubError) (hub new : Hub) : Type 0 where
-  pub full : IfOk result (λ refusal. refusal ≡ full_for size hub)
-  pub room : IfOk result (λ refusal. refusal ≡ None → HasRoom size new)
+-- why a message with this recording isn't sent
+abbrev pub unsent : State → Recording → Option Refusal
+unsent s r = first_some (too_many s (Some r) ∷ no_room_for s (Some r) ∷ [])
+
+-- memory was taken for a message with this recording
+pub record HasRoom (r : Recording) (hub : Hub) : Type 0 where
+  pub history : HasRoomFor r hub.history
+  pub journal : 23 + length (spelled_recording r) ≤ hub.journal.spare
+
+-- A call takes all memory for a message with this recording, where it may be sent.
+pub record MakesRoom (r : Recording) (result : Result (Option Refusal) HubError) (hub new : Hub) : Type 0 where
+  pub refused : (s : State) → IsHubOf hub s → IfOk result (λ refusal. refusal ≡ unsent s r)
+  pub room : IfOk result (λ refusal. refusal ≡ None → HasRoom r new)
   pub kept : SameBut hub new
   pub starved : OnErr result (result ≡ Err NoMemory)

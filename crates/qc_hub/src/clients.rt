@@ -2,7 +2,7 @@
 ghost use Rattle.std.specs.Prelude.{◌≡◌, ◌∷◌, [], None, Some, true, IfOk, option_map};
 ghost use Rattle.qc_machine.specs.Refuse.{first_some};
 ghost use Rattle.qc_machine.specs.Sites.{no_clients};
-ghost use Rattle.qc_machine.specs.Slots.{is_slot, out_of_slots, client_busy, client_idle};
+ghost use Rattle.qc_machine.specs.Slots.{is_slot, out_of_slots, client_busy, idle};
 ghost use Rattle.qc_machine.specs.State.{in_slot, set_slot};
 
 use qc_base::NoMemory;
@@ -71,7 +71,7 @@ impl Clients {
 
     /// Why the client can't go on with its recorder, by its slot alone.
     pub(crate) fn idle(&self, client: u64) -> Option<Refusal>
-        ensures { result ≡ first_some (out_of_slots client ∷ client_idle self.now client ∷ []) }
+        ensures { result ≡ first_some (out_of_slots client ∷ idle self.now client ∷ []) }
     {
         if !is_slot(client) {
             return Some(Refusal::NoSuchSlot(client));

@@ -9,25 +9,23 @@ use crate::error::HubError;
 use qc_base::Moment;
 use qc_catalogue::Catalogue;
 use qc_frame::Log;
+use qc_history::History;
 use qc_journal::Journal;
 use qc_machine::Limits;
+use qc_players::Players;
 use qc_protocol::{Act, Order, Refusal, Reply};
-use qc_rows::Tables;
 use qc_site::Site;
-use qc_store::Store;
 use std::alloc::Global;
 
-/// The service over one site: its logs, the catalogue, the messages and the tables as the journal's facts settle them,
-/// what the clients' recorders hold, and the last moment seen.
+/// The service over one site: its logs, what the journal's facts have settled, what the clients' recorders and the
+/// players hold, and the last moment seen.
 #[derive(Drop)]
 pub struct Hub {
     pub(crate) journal: Journal,
     pub(crate) log: Log,
-    pub(crate) catalogue: Catalogue,
-    pub(crate) store: Store,
-    pub(crate) tables: Tables,
+    pub(crate) history: History,
     pub(crate) clients: Clients,
-    pub(crate) facts: u64,
+    pub(crate) players: Players,
     pub(crate) last: Moment,
     pub(crate) limits: Limits,
     pub(crate) in_fault: bool,
@@ -46,7 +44,7 @@ impl Hub {
     pub fn facts(&self) -> u64
         ensures { (s : State) → IsHubOf self.now s → result ≡ length s.history.facts }
     {
-        self.facts
+        self.history.facts()
     }
 
     /// The last moment seen, in seconds.
@@ -60,7 +58,7 @@ impl Hub {
     pub fn catalogue(&self) -> &Catalogue
         ensures { (s : State) → IsHubOf self.now s → result.now ≡ s.history.catalogue }
     {
-        &self.catalogue
+        self.history.catalogue()
     }
 
     /// Whether the last call that took the site ended in `SiteFault`.
@@ -99,8 +97,15 @@ impl Hub {
                 component.as_slice(),
                 calls.as_slice(),
             ),
+            Act::Take(player, app) => self.take(alloc, site, at, *player, app.as_slice()),
+            Act::Work(player) => self.work(alloc, site, at, *player),
+            Act::End(player) => self.end(alloc, site, at, *player),
+            Act::Phase(player) => self.phase(alloc, site, at, *player),
+            Act::Play(player, app) => self.play(alloc, site, at, *player, app.as_slice()),
+            Act::Switch(app, on) => self.switch_app(alloc, site, at, app.as_slice(), *on),
             Act::Queues(app) => self.queues(alloc, at, app.as_slice()),
             Act::Table(table) => self.table(alloc, at, table.as_slice()),
+            Act::Outside(resource) => self.outside(alloc, site, at, resource.as_slice()),
             _ => Ok(Reply::Refused(Refusal::NotBuilt)),
         }
     }

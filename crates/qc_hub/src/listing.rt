@@ -19,12 +19,12 @@ impl Hub {
         ensures { StepsInMemory at (λ s. step s (listing at app.now)) result self.old self.new }
     {
         let last = later(at, self.last);
-        let Some(app) = self.catalogue.app(app) else {
+        let Some(app) = self.history.catalogue().app(app) else {
             self.last = last;
             return Ok(Reply::Refused(Refusal::UnknownApp));
         };
         let name = app.name.copy();
-        let Ok(list) = self.store.list(alloc, name.as_bytes()) else {
+        let Ok(list) = self.history.store().list(alloc, name.as_bytes()) else {
             return Err(HubError::NoMemory);
         };
         self.last = last;

@@ -1,32 +1,35 @@
 // Reading a site's logs.
-ghost use Rattle.std.specs.Prelude.{◌≡◌, ◌<◌};
+ghost use Rattle.std.specs.Prelude.{◌≡◌, ◌<◌, IfOk, true};
+ghost use Rattle.qc_base.specs.Spelling.{is_fact};
 ghost use Rattle.qc_frame.specs.Calls.{LogStands};
 ghost use Rattle.qc_frame.specs.Log.{just_opened};
 ghost use Rattle.qc_journal.specs.Journal.{log_of};
-ghost use Rattle.qc_machine.specs.History.{no_catalogue};
+ghost use Rattle.qc_history.specs.Stands.{IsHistoryOf};
+ghost use Rattle.qc_machine.specs.History.{no_facts};
+ghost use Rattle.qc_machine.specs.Sites.{no_clients, no_players};
+ghost use Rattle.qc_players.specs.Players.{players_of};
 ghost use Rattle.qc_hub.specs.Calls.{OpensSite};
-ghost use Rattle.qc_hub.specs.Opening.{in_journal, in_log, in_catalogue, damage_at, log_used, is_sent_next};
+ghost use Rattle.qc_hub.specs.Opening.{in_journal, in_log, damage_at, log_used};
 ghost use Rattle.qc_hub.specs.Opening.{IsUnread, FindsLogs, TakesFact, ReadsFacts, FindsNoLine};
-ghost use Rattle.qc_hub.specs.Stands.{AreNumbered};
 
-use crate::classes::names_exception;
 use crate::clients::Clients;
 use crate::hub::Hub;
-use qc_base::{Fact, Moment, Recording};
-use qc_catalogue::{Catalogue, CatalogueError, Entries};
+use qc_base::{Fact, NoMemory};
 use qc_frame::{Damage, Log, LogError};
+use qc_history::History;
 use qc_journal::Journal;
 use qc_machine::{Limits, OpenError};
-use qc_recorder::fits;
-use qc_rows::Tables;
+use qc_players::Players;
 use qc_site::{Site, SiteFile};
-use qc_store::Store;
 use std::alloc::Global;
 
 const LOG_HEADER: [u8; 16] = *b"QC-CRMLOG--0001\n";
 
 // Where the first entry of a log stands: behind the header, a gate and four bytes.
 const FIRST_ENTRY: u64 = 21;
+
+// What the longest fact of an attempt's end needs of room in the journal: its spelling and four bytes.
+const END_ROOM: usize = 30;
 
 // Why a site can't be opened where its journal can't be read on.
 fn journal_error(error: LogError) -> OpenError
@@ -52,16 +55,6 @@ fn log_error(error: LogError) -> OpenError
     }
 }
 
-// Why a site can't be opened whose catalogue can't be read, by the offset of its entry.
-fn catalogue_error(at: u64, error: CatalogueError) -> OpenError
-    ensures { result ≡ in_catalogue at error }
-{
-    match error {
-        CatalogueError::NoMemory => OpenError::NoMemory,
-        _ => damaged(at),
-    }
-}
-
 fn damaged(at: u64) -> OpenError
     ensures { result ≡ OpenError.Damaged (damage_at at) }
 {
@@ -77,14 +70,16 @@ fn used_log() -> OpenError
     OpenError::Damaged(Damage { file, at })
 }
 
-fn empty_catalogue(alloc: Global) -> Catalogue
-    ensures { result ≡ no_catalogue }
+// What a hub holds before a fact was read: no facts, no recorders and no attempts.
+fn empty(alloc: Global) -> Result<(History, Clients, Players), NoMemory>
+    ensures history { IfOk result (λ parts. IsHistoryOf parts.0 no_facts) }
+    ensures clients { IfOk result (λ parts. parts.1 ≡ no_clients) }
+    ensures players { IfOk result (λ parts. players_of parts.2 ≡ no_players) }
 {
-    Catalogue {
-        tables: Entries::over(Vec::new(alloc)),
-        resources: Entries::over(Vec::new(alloc)),
-        apps: Entries::over(Vec::new(alloc)),
-    }
+    let history = History::make(alloc)?;
+    let clients = Clients::make(alloc)?;
+    let players = Players::make(alloc)?;
+    Ok((history, clients, players))
 }
 
 impl Hub {
@@ -92,33 +87,33 @@ impl Hub {
     ///
     /// `NotMade` comes exactly where one of the logs hasn't its header, which is looked at before any group, and
     /// `NoCatalogue` exactly where both have and the journal has no open group. `Damaged` comes exactly where the
-    /// journal's groups go on as no history does, or else where the log of compensations has an open group (docs/RULES.md,
-    /// "Opening"). `SiteFault` comes only where the site's count of faults rose.
+    /// journal's groups go on as no history does, or else where the log of compensations has an open group
+    /// (docs/RULES.md, "Opening"). `SiteFault` comes only where the site's count of faults rose.
     pub fn open<S: Site>(alloc: Global, site: &mut S, limits: Limits) -> Result<Hub, OpenError>
         ensures { OpensSite S.Site limits result site.old site.new }
     {
         let mut hub = Hub::unread(alloc, site, limits)?;
         hub.read_facts(alloc, site)?;
-        if hub.facts == 0 {
+        if hub.history.facts() == 0 {
             return Err(OpenError::NoCatalogue);
         }
         hub.read_log(alloc, site)?;
         Ok(hub)
     }
 
-    // A hub that stands before the first groups of both logs.
+    // A hub that stands before the first groups of both logs. The end of an attempt will take no memory.
     fn unread<S: Site>(alloc: Global, site: &mut S, limits: Limits) -> Result<Hub, OpenError>
         ensures { FindsLogs S.Site limits result site.old site.new }
     {
-        let Ok(store) = Store::make(alloc) else {
+        let Ok((history, clients, players)) = empty(alloc) else {
             return Err(OpenError::NoMemory);
         };
-        let Ok(clients) = Clients::make(alloc) else {
-            return Err(OpenError::NoMemory);
-        };
-        let journal = match Journal::open(alloc, site) {
+        let mut journal = match Journal::open(alloc, site) {
             Ok(journal) => journal,
             Err(error) => return Err(journal_error(error)),
+        };
+        let Ok(()) = journal.reserve(alloc, END_ROOM) else {
+            return Err(OpenError::NoMemory);
         };
         let log = match Log::open(alloc, site, SiteFile::CrmLog, &LOG_HEADER) {
             Ok(log) => log,
@@ -127,32 +122,32 @@ impl Hub {
         Ok(Hub {
             journal,
             log,
-            catalogue: empty_catalogue(alloc),
-            store,
-            tables: Tables::none(alloc),
+            last: history.last(),
+            history,
             clients,
-            facts: 0,
-            last: Moment::clamp(0),
+            players,
             limits,
             in_fault: false,
         })
     }
 
-    // Reads the journal to its end.
+    // Reads the journal to its end. The last moment seen is then that of its last fact.
     fn read_facts<S: Site>(&mut self, alloc: Global, site: &mut S) -> Result<(), OpenError>
         requires stands { LogStands S.Site (log_of self.old.journal) site.old }
         requires unread { IsUnread self.old.limits self.old }
         ensures { ReadsFacts S.Site result self.old site.old self.new site.new }
     {
+        let mut numbers = Vec::new(alloc);
         loop {
             let next = match self.journal.next_fact(alloc, site) {
                 Ok(next) => next,
                 Err(error) => return Err(journal_error(error)),
             };
             let Some((at, fact)) = next else {
+                self.last = self.history.last();
                 return Ok(());
             };
-            self.take_fact(alloc, at, fact)?;
+            self.take_fact(alloc, at, fact, &mut numbers)?;
         }
     }
 
@@ -172,73 +167,23 @@ impl Hub {
         Ok(())
     }
 
-    // Goes on with a fact that was read, whose entry has this offset.
-    fn take_fact(&mut self, alloc: Global, at: u64, fact: Fact) -> Result<(), OpenError>
-        requires numbered { AreNumbered self.old.store.messages }
-        requires fits { self.old.facts < 4611686018427387904 }
-        ensures { TakesFact at fact result self.old self.new }
-    {
-        match fact {
-            Fact::Catalogue(text) => self.take_catalogue(alloc, at, text.as_slice()),
-            Fact::Sent(id, moment, recording) => {
-                self.take_sent(alloc, at, id, moment, recording)
-            }
-            _ => Err(damaged(at)),
-        }
-    }
-
-    fn take_catalogue(&mut self, alloc: Global, at: u64, text: &[u8]) -> Result<(), OpenError>
-        requires numbered { AreNumbered self.old.store.messages }
-        ensures { TakesFact at (Fact.Catalogue text.now) result self.old self.new }
-    {
-        if self.facts != 0 {
-            return Err(damaged(at));
-        }
-        let catalogue = match Catalogue::read(alloc, text) {
-            Ok(catalogue) => catalogue,
-            Err(error) => return Err(catalogue_error(at, error)),
-        };
-        let Ok(tables) = Tables::make(alloc, &catalogue) else {
-            return Err(OpenError::NoMemory);
-        };
-        self.catalogue = catalogue;
-        self.tables = tables;
-        self.facts = 1;
-        Ok(())
-    }
-
-    fn take_sent(
+    // Goes on with a fact that was read, whose entry has this offset. Beside it the numbers of the attempts in the
+    // facts are kept.
+    fn take_fact(
         &mut self,
         alloc: Global,
         at: u64,
-        id: u64,
-        moment: Moment,
-        recording: Recording,
+        fact: Fact,
+        numbers: &mut Vec<u64>,
     ) -> Result<(), OpenError>
-        requires numbered { AreNumbered self.old.store.messages }
-        requires fits { self.old.facts < 4611686018427387904 }
-        ensures { TakesFact at (Fact.Sent id moment recording) result self.old self.new }
+        requires limits { is_fact fact ≡ true }
+        requires few { self.old.history.facts < 4611686018427387904 }
+        ensures { TakesFact at fact result self.old numbers.old.items self.new numbers.new.items }
     {
-        if !self.is_next(id, moment) {
-            return Err(damaged(at));
+        match self.history.take(alloc, fact, numbers) {
+            Ok(true) => Ok(()),
+            Ok(false) => Err(damaged(at)),
+            Err(_) => Err(OpenError::NoMemory),
         }
-        if !fits(&self.catalogue, &recording) {
-            return Err(damaged(at));
-        }
-        let Ok(()) = self.store.reserve(alloc) else {
-            return Err(OpenError::NoMemory);
-        };
-        let final_class = names_exception(&self.catalogue, &recording);
-        self.store.insert(id, recording, final_class, moment);
-        self.facts += 1;
-        self.last = moment;
-        Ok(())
-    }
-
-    // Whether a message is sent next with this id, behind a first fact and at a moment that doesn't fall.
-    fn is_next(&self, id: u64, moment: Moment) -> bool
-        ensures { result ≡ is_sent_next self.now id moment }
-    {
-        self.facts >= 1 && self.last.get() <= moment.get() && id == self.store.len() + 1
     }
 }

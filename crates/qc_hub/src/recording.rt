@@ -1,6 +1,7 @@
 // Orders on the recorders of clients.
 ghost use Rattle.std.specs.Prelude.{◌≡◌};
-ghost use Rattle.qc_hub.specs.Calls.{unrecorded, IsReady, CarriesOut, StepsInMemory, opening, calling, committing, cancelling};
+ghost use Rattle.qc_hub.specs.Calls.{unrecorded, IsReady, CarriesOut, StepsInMemory};
+ghost use Rattle.qc_hub.specs.Calls.{opening, calling, committing, cancelling};
 ghost use Rattle.qc_machine.specs.Step.{step};
 
 use crate::error::HubError;
@@ -37,7 +38,7 @@ impl Hub {
         if let Some(refusal) = self.clients.busy(client) {
             return Ok(Reply::Refused(refusal));
         }
-        match Recorder::begin(alloc, &self.catalogue, app, component) {
+        match Recorder::begin(alloc, self.history.catalogue(), app, component) {
             Ok(recorder) => {
                 self.clients.put(client, recorder);
                 Ok(Reply::Opened)
@@ -64,7 +65,7 @@ impl Hub {
         let Some(mut recorder) = self.clients.take(client) else {
             return Ok(Reply::Refused(Refusal::SlotIdle));
         };
-        let added = recorder.add(alloc, &self.catalogue, call);
+        let added = recorder.add(alloc, self.history.catalogue(), call);
         self.clients.put(client, recorder);
         match added {
             Ok(count) => Ok(Reply::Recorded(count as u64)),
@@ -108,11 +109,11 @@ impl Hub {
         if recorder.count() == 0 {
             return Ok(Reply::SentNothing);
         }
-        match self.make_room(alloc, recorder.size()) {
-            Ok(None) => self.send_now(site, recorder.into_recording()),
-            Ok(Some(full)) => {
+        match self.make_room(alloc, &recorder) {
+            Ok(None) => self.add_sent(site, recorder.into_recording()),
+            Ok(Some(refusal)) => {
                 self.clients.put(client, recorder);
-                Ok(Reply::Refused(full))
+                Ok(Reply::Refused(refusal))
             }
             Err(error) => {
                 self.clients.put(client, recorder);

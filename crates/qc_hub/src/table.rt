@@ -21,18 +21,18 @@ impl Hub {
         ensures { StepsInMemory at (λ s. step s (showing at table.now)) result self.old self.new }
     {
         let last = later(at, self.last);
-        let Some(opening) = self.catalogue.table(table) else {
+        let Some(opening) = self.history.catalogue().table(table) else {
             self.last = last;
             return Ok(Reply::Refused(Refusal::UnknownTable));
         };
         let name = opening.name.copy();
-        let Ok(rows) = self.tables.list(alloc, &name) else {
+        let Ok(rows) = self.history.tables().list(alloc, &name) else {
             return Err(HubError::NoMemory);
         };
         let Ok(shown) = shown_rows(alloc, rows.as_slice()) else {
             return Err(HubError::NoMemory);
         };
-        let total = self.tables.total(&name);
+        let total = self.history.tables().total(&name);
         self.last = last;
         Ok(Reply::Table(name, shown, total))
     }

@@ -2,6 +2,7 @@
 use Rattle.std.specs.Prelude.{◌≡◌, ◌<◌, ◌≤◌, ℕ, true, Option, OnOk, OnErr}
 use Rattle.std.specs.declared.result.Result.{Result}
 use Rattle.qc_base.specs.declared.fact.Fact.{Fact}
+use Rattle.qc_base.specs.Spelling.{is_fact}
 use Rattle.qc_site.specs.declared.site.Site.{Ghosts}
 use Rattle.qc_frame.specs.Log.{HasGroup}
 use Rattle.qc_frame.specs.Calls.{IfFound, IfAtEnd, MakesGroup}
@@ -16,7 +17,8 @@ module _ {S : Type 0} (g : Ghosts S) where
     pub fact : g.told → IfFound result (λ next. NextFact (g.shown site).journal journal new next.0 next.1)
     pub still : g.told → IfFound result (λ next. g.shown after ≡ g.shown site)
     pub end : g.told → IfAtEnd result (NoFact (g.shown site).journal (g.shown after).journal journal new)
-    -- whatever the site: what else of the journal stays, and that a loop to the end ends
+    -- whatever the site: the fact's limits, what else of the journal stays, and that a loop to the end ends
+    pub limits : IfFound result (λ next. is_fact next.1 ≡ true)
     pub moved : IfFound result (λ next. new ≡ record journal { place = new.place })
     pub onward : IfFound result (λ next. (journal.place < new.place) × (new.place ≤ 4611686018427387904))
     pub ended : IfAtEnd result (new ≡ record journal { length = new.length; ended = true })

@@ -29,7 +29,7 @@ reads-orderly text c is = by_read (catalogue_of text) refl is
 -- slots
 
 -- what stands in a slot after one was set
-got-set : {A : Type 0} (xs : List A) (i j : ℕ) (v x : A) → slice_get (slice_set xs i v) j ≡ Some x → (x ≡ v) ⊎ (slice_get xs j ≡ Some x)
+pub got-set : {A : Type 0} (xs : List A) (i j : ℕ) (v x : A) → slice_get (slice_set xs i v) j ≡ Some x → (x ≡ v) ⊎ (slice_get xs j ≡ Some x)
 got-set [] i j v x e = inr e
 got-set (y ∷ ys) zero zero v x e = inl (let same : v ≡ x = cc in sym same)
 got-set (y ∷ ys) zero (suc j) v x e = inr e
@@ -37,7 +37,7 @@ got-set (y ∷ ys) (suc i) zero v x e = inr e
 got-set (y ∷ ys) (suc i) (suc j) v x e = got-set ys i j v x e
 
 -- a slot's content, by the list
-in-list : {A : Type 0} (slots : List (Option A)) (n : ℕ) (a : A) → in_slot n slots ≡ Some a → slice_get slots (n - 1) ≡ Some (Some a)
+pub in-list : {A : Type 0} (slots : List (Option A)) (n : ℕ) (a : A) → in_slot n slots ≡ Some a → slice_get slots (n - 1) ≡ Some (Some a)
 in-list {A = A} slots n a e = by (slice_get slots (n - 1)) refl e
   where
     by : (o : Option (Option A)) → slice_get slots (n - 1) ≡ o → (elim o [ Some x ↦ x | None ↦ None ]) ≡ Some a → slice_get slots (n - 1) ≡ Some (Some a)

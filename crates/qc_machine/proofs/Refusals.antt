@@ -20,7 +20,7 @@ use Rattle.qc_recorder.specs.Fits.{and_then, component_of_app, component_in, arg
 use Rattle.qc_recorder.specs.Recording.{no_calls, begun, with_call, if_short, if_few, add_call, add_calls, methods_for, called, recorded}
 use Rattle.qc_machine.specs.Recorded.{if_refused}
 use Rattle.qc_machine.specs.Refuse.{refuse_if, first_some, is_of_line}
-use Rattle.qc_machine.specs.Slots.{is_slot, out_of_slots, client_busy, client_idle}
+use Rattle.qc_machine.specs.Slots.{is_slot, out_of_slots, client_busy, idle}
 use Rattle.qc_machine.specs.State.{in_slot}
 
 -- the first of some refusals and more
@@ -34,6 +34,16 @@ pub first-none : (os more : List (Option Refusal)) → first_some os ≡ None �
 first-none [] more e = refl
 first-none (Some x ∷ os) more e = cc
 first-none (None ∷ os) more e = first-none os more e
+
+-- where the first of some is none, each is
+
+pub none-first : (o : Option Refusal) (os : List (Option Refusal)) → first_some (o ∷ os) ≡ None → (o ≡ None) × (first_some os ≡ None)
+none-first (Some x) os e = cc
+none-first None os e = (refl, e)
+
+pub not-refused : (b : Bool) (r : Refusal) → refuse_if b r ≡ None → b ≡ false
+not-refused true r e = cc
+not-refused false r e = refl
 
 -- refusals of orders
 
@@ -61,8 +71,8 @@ busy-order clients n = by (in_slot n clients)
     by None r e = cc
     by (Some held) r e = let same : SlotBusy (length held.calls) ≡ r = cc in ap is_of_line (sym same)
 
-pub idle-order : (clients : List (Option Recording)) (n : ℕ) → IsOrders (client_idle clients n)
-idle-order clients n = refuse-order _ SlotIdle refl
+pub idle-order : {A : Type 0} (slots : List (Option A)) (n : ℕ) → IsOrders (idle slots n)
+idle-order slots n = refuse-order _ SlotIdle refl
 
 -- refusals of what is recorded
 

@@ -5,6 +5,9 @@ use Rattle.qc_base.specs.declared.fact.Fact.{Fact}
 use Rattle.qc_protocol.specs.declared.order.Act.{Act}
 use Rattle.qc_protocol.specs.declared.order.Act.TheVariants.{OpenSlot, CallSlot, CommitSlot, CancelSlot, Send, Take, Work, End, Phase, Play, Move, Switch, Queues, Table, Outside}
 use Rattle.qc_protocol.specs.declared.order.Order.{Order}
+use Rattle.qc_base.specs.declared.log_line.Why.{Why}
+use Rattle.qc_base.specs.declared.log_line.Why.TheVariants.{Step as AtStep, Forced, NotReady}
+use Rattle.qc_base.specs.declared.message.Message.{Message}
 use Rattle.qc_base.specs.declared.recording.Recording.{Recording}
 use Rattle.qc_protocol.specs.declared.reply.Refusal.{Refusal}
 use Rattle.qc_protocol.specs.declared.reply.Reply.TheVariants.{Refused}
@@ -14,7 +17,11 @@ use Rattle.qc_machine.specs.Recorded.{called_by, recording_sent}
 use Rattle.qc_machine.specs.Recording.{open_step, call_step, cancel_step}
 use Rattle.qc_machine.specs.Refuse.{is_of_line}
 use Rattle.qc_machine.specs.Sending.{fact_sent, send_step}
-use Rattle.qc_machine.specs.State.{State, at_moment, in_slot, with_client}
+use Rattle.qc_machine.specs.Attempts.{chosen_message, parts_held}
+use Rattle.qc_machine.specs.Playing.{after_end, after_work, end_in, end_reply, ended_attempt, fact_of_end, on_held, phase_in, play_reply, play_step, why_ended, work_in, work_on, work_reply}
+use Rattle.qc_machine.specs.State.{State, HeldAttempt, at_moment, in_slot, with_client, with_player}
+use Rattle.qc_machine.specs.Switching.{fact_switched}
+use Rattle.qc_machine.specs.Taking.{new_attempt, take_step}
 use Rattle.qc_machine.specs.Step.{step, step_of, answer, refusal}
 use Rattle.qc_machine.specs.Steps.{Step, Among, IsBetween}
 
@@ -50,6 +57,30 @@ cancels s n (Some r) = with-slot s n None
 commits : (s : State) (n : ℕ) (o : Option Recording) → Later s (send_step (with_client n None s) o).state
 commits s n o = let on = sends (with_client n None s) o in record { last = omega (arith, on.last); more = on.more; facts = on.facts }
 
+with-held : (s : State) (n : ℕ) (o : Option HeldAttempt) → Later s (with_player n o s)
+with-held s n o = record { last = omega arith; more = []; facts = sym (append-nil s.history.facts) }
+
+takes : (s : State) (n : ℕ) (o : Option Message) → Later s (take_step s n o).state
+takes s n None = stays s
+takes s n (Some m) = with-held s n (Some (new_attempt s m))
+
+-- an attempt ends, whatever the slot holds then
+with-end : (s : State) (n : ℕ) (o : Option HeldAttempt) (a : HeldAttempt) (why : Option Why) → Later s (with_player n o (after_end why a s))
+with-end s n o a why = record { last = omega arith; more = fact_of_end s.last a why ∷ []; facts = refl }
+
+ends-on : (s : State) (n : ℕ) (a : HeldAttempt) → Later s (end_in s n a).state
+ends-on s n a = with-end s n (Some (ended_attempt (why_ended s.history.catalogue a) a)) a (why_ended s.history.catalogue a)
+
+plays : (s : State) (n : ℕ) (o : Option Message) → Later s (play_step s n o).state
+plays s n None = stays s
+plays s n (Some m) =
+    let a : HeldAttempt = new_attempt s m in
+    with-end s n None a (why_ended s.history.catalogue (work_on (parts_held s.history.catalogue a) (parts_held s.history.catalogue a) a))
+
+on-held : (s : State) (go : HeldAttempt → Step) (o : Option HeldAttempt) → ((a : HeldAttempt) → Later s (go a).state) → Later s (on_held s go o).state
+on-held s go None each = stays s
+on-held s go (Some a) each = each a
+
 carried-out : (s : State) (act : Act) → Later s (step_of s act).state
 carried-out s (Send app component calls) = sends s (recording_sent s (Send app component calls))
 carried-out s (Queues app) = stays s
@@ -57,13 +88,13 @@ carried-out s (OpenSlot n app component) = opens s n (begun s.history.catalogue 
 carried-out s (CallSlot n call) = calls-on s n (called_by s n call)
 carried-out s (CommitSlot n) = commits s n (recording_sent s (CommitSlot n))
 carried-out s (CancelSlot n) = cancels s n (in_slot n s.clients)
-carried-out s (Take n app) = stays s
-carried-out s (Work n) = stays s
-carried-out s (End n) = stays s
-carried-out s (Phase n) = stays s
-carried-out s (Play n app) = stays s
+carried-out s (Take n app) = takes s n (chosen_message s app)
+carried-out s (Work n) = on-held s (work_in s n) (in_slot n s.players) (λ a. with-held s n (Some (after_work (parts_held s.history.catalogue a) a)))
+carried-out s (End n) = on-held s (end_in s n) (in_slot n s.players) (ends-on s n)
+carried-out s (Phase n) = on-held s (phase_in s n) (in_slot n s.players) (λ a. with-held s n None)
+carried-out s (Play n app) = plays s n (chosen_message s app)
 carried-out s (Move from to batch) = stays s
-carried-out s (Switch app on) = stays s
+carried-out s (Switch app on) = record { last = omega arith; more = fact_switched s app on ∷ []; facts = refl }
 carried-out s (Table name) = stays s
 carried-out s (Outside name) = stays s
 
@@ -84,6 +115,35 @@ cancel-replies : (s : State) (n : ℕ) (o : Option Recording) (r : Refusal) → 
 cancel-replies s n None r e = cc
 cancel-replies s n (Some recording) r e = cc
 
+take-replies : (s : State) (n : ℕ) (o : Option Message) (r : Refusal) → (take_step s n o).reply ≡ Refused r → ⊥
+take-replies s n None r e = cc
+take-replies s n (Some m) r e = cc
+
+worked-replies : (o : Option Why) (number left : ℕ) (r : Refusal) → work_reply o number left ≡ Refused r → ⊥
+worked-replies None number left r e = cc
+worked-replies (Some (AtStep call step)) number left r e = cc
+worked-replies (Some Forced) number left r e = cc
+worked-replies (Some (NotReady resource)) number left r e = cc
+
+work-replies : (s : State) (n : ℕ) (a : HeldAttempt) (r : Refusal) → (work_in s n a).reply ≡ Refused r → ⊥
+work-replies s n a r e = worked-replies (after_work (parts_held s.history.catalogue a) a).why _ _ r e
+
+end-replies : (attempt : ℕ) (why : Option Why) (r : Refusal) → end_reply attempt [] why ≡ Refused r → ⊥
+end-replies attempt (Some why) r e = cc
+end-replies attempt None r e = cc
+
+played-replies : (a : HeldAttempt) (why : Option Why) (r : Refusal) → play_reply a [] why ≡ Refused r → ⊥
+played-replies a (Some why) r e = cc
+played-replies a None r e = cc
+
+play-replies : (s : State) (n : ℕ) (o : Option Message) (r : Refusal) → (play_step s n o).reply ≡ Refused r → ⊥
+play-replies s n None r e = cc
+play-replies s n (Some m) r e = played-replies (new_attempt s m) _ r e
+
+held-replies : (s : State) (go : HeldAttempt → Step) (o : Option HeldAttempt) → ((a : HeldAttempt) (r : Refusal) → (go a).reply ≡ Refused r → ⊥) → (r : Refusal) → (on_held s go o).reply ≡ Refused r → ⊥
+held-replies s go None each r e = cc
+held-replies s go (Some a) each r e = each a r e
+
 no-refusal : (s : State) (act : Act) (r : Refusal) → (step_of s act).reply ≡ Refused r → ⊥
 no-refusal s (Send app component calls) r e = send-replies s (recording_sent s (Send app component calls)) r e
 no-refusal s (Queues app) r e = cc
@@ -91,11 +151,11 @@ no-refusal s (OpenSlot n app component) r e = open-replies s n (begun s.history.
 no-refusal s (CallSlot n call) r e = call-replies s n (called_by s n call) r e
 no-refusal s (CommitSlot n) r e = send-replies (with_client n None s) (recording_sent s (CommitSlot n)) r e
 no-refusal s (CancelSlot n) r e = cancel-replies s n (in_slot n s.clients) r e
-no-refusal s (Take n app) r e = cc
-no-refusal s (Work n) r e = cc
-no-refusal s (End n) r e = cc
-no-refusal s (Phase n) r e = cc
-no-refusal s (Play n app) r e = cc
+no-refusal s (Take n app) r e = take-replies s n (chosen_message s app) r e
+no-refusal s (Work n) r e = held-replies s (work_in s n) (in_slot n s.players) (λ a r f. work-replies s n a r f) r e
+no-refusal s (End n) r e = held-replies s (end_in s n) (in_slot n s.players) (λ a r f. end-replies a.attempt (why_ended s.history.catalogue a) r f) r e
+no-refusal s (Phase n) r e = held-replies s (phase_in s n) (in_slot n s.players) (λ a r f. cc) r e
+no-refusal s (Play n app) r e = play-replies s n (chosen_message s app) r e
 no-refusal s (Move from to batch) r e = cc
 no-refusal s (Switch app on) r e = cc
 no-refusal s (Table name) r e = cc
@@ -130,8 +190,8 @@ same-on : (s : State) → GoesOn s s
 same-on s = record { more = []; facts = sym (append-nil s.history.facts) }
 
 -- today no step has a state in its midst but its ends
-ends : (s x : State) (t : Step) → t.through ≡ [] → GoesOn s t.state → IsBetween s t x → GoesOn s x × GoesOn x t.state
-ends s x t none on between = ⊎_elim (λ e. at-first e) (λ rest. ⊎_elim (λ a. absurd (subst (λ (l : List State). Among l x) none a)) (λ e. at-last e) rest) between
+at-ends : (s x : State) (t : Step) → t.through ≡ [] → GoesOn s t.state → IsBetween s t x → GoesOn s x × GoesOn x t.state
+at-ends s x t none on between = ⊎_elim (λ e. at-first e) (λ rest. ⊎_elim (λ a. absurd (subst (λ (l : List State). Among l x) none a)) (λ e. at-last e) rest) between
   where
     at-first : x ≡ s → GoesOn s x × GoesOn x t.state
     at-first e = subst (λ (y : State). GoesOn s y × GoesOn y t.state) (sym e) (same-on s, on)
@@ -156,6 +216,18 @@ cancelled-none : (s : State) (n : ℕ) (o : Option Recording) → (cancel_step s
 cancelled-none s n None = refl
 cancelled-none s n (Some r) = refl
 
+taken-none : (s : State) (n : ℕ) (o : Option Message) → (take_step s n o).through ≡ []
+taken-none s n None = refl
+taken-none s n (Some m) = refl
+
+played-none : (s : State) (n : ℕ) (o : Option Message) → (play_step s n o).through ≡ []
+played-none s n None = refl
+played-none s n (Some m) = refl
+
+held-none : (s : State) (go : HeldAttempt → Step) (o : Option HeldAttempt) → ((a : HeldAttempt) → (go a).through ≡ []) → (on_held s go o).through ≡ []
+held-none s go None each = refl
+held-none s go (Some a) each = each a
+
 through-none : (s : State) (act : Act) → (step_of s act).through ≡ []
 through-none s (Send app component calls) = sent-none s (recording_sent s (Send app component calls))
 through-none s (Queues app) = refl
@@ -163,11 +235,11 @@ through-none s (OpenSlot n app component) = opened-none s n (begun s.history.cat
 through-none s (CallSlot n call) = called-none s n (called_by s n call)
 through-none s (CommitSlot n) = sent-none (with_client n None s) (recording_sent s (CommitSlot n))
 through-none s (CancelSlot n) = cancelled-none s n (in_slot n s.clients)
-through-none s (Take n app) = refl
-through-none s (Work n) = refl
-through-none s (End n) = refl
-through-none s (Phase n) = refl
-through-none s (Play n app) = refl
+through-none s (Take n app) = taken-none s n (chosen_message s app)
+through-none s (Work n) = held-none s (work_in s n) (in_slot n s.players) (λ a. refl)
+through-none s (End n) = held-none s (end_in s n) (in_slot n s.players) (λ a. refl)
+through-none s (Phase n) = held-none s (phase_in s n) (in_slot n s.players) (λ a. refl)
+through-none s (Play n app) = played-none s n (chosen_message s app)
 through-none s (Move from to batch) = refl
 through-none s (Switch app on) = refl
 through-none s (Table name) = refl
@@ -181,4 +253,4 @@ pub step-facts : (s x : State) (order : Order) → IsBetween s (step s order) x 
 unfolding step
 step-facts s x order between =
     let on = goes-on order.at s order.act (refusal (at_moment order.at s) order.act) in
-    ends s x (answer s (at_moment order.at s) order.act (refusal (at_moment order.at s) order.act)) (answer-none s (at_moment order.at s) order.act (refusal (at_moment order.at s) order.act)) (record { more = on.more; facts = on.facts }) between
+    at-ends s x (answer s (at_moment order.at s) order.act (refusal (at_moment order.at s) order.act)) (answer-none s (at_moment order.at s) order.act (refusal (at_moment order.at s) order.act)) (record { more = on.more; facts = on.facts }) between

@@ -1,5 +1,6 @@
 -- What the step of each order comes to.
 use Rattle.std.proofs.Common.{◌≡◌, ℕ, List, [], ◌∷◌, Bool, true, false, not, refl, ap, ◌∙◌, cond, Option, Some, None, option_and_then}
+use Rattle.std.specs.Bool.{⊤}
 use Rattle.qc_protocol.specs.declared.order.Act.{Act}
 use Rattle.qc_protocol.specs.declared.order.Act.TheVariants.{OpenSlot, CallSlot, CommitSlot, CancelSlot, Send, Take, Work, End, Phase, Play, Move, Switch, Queues, Table, Outside}
 use Rattle.qc_protocol.specs.declared.order.Order.{Order}
@@ -8,12 +9,15 @@ use Rattle.qc_protocol.specs.declared.reply.Refusal.{Refusal}
 use Rattle.qc_protocol.specs.declared.reply.Refusal.TheVariants.{NotBuilt}
 use Rattle.qc_protocol.specs.declared.reply.Reply.TheVariants.{Refused}
 use Rattle.qc_recorder.specs.Recording.{begun, recorded}
-use Rattle.qc_machine.specs.Names.{app_unknown, table_unknown}
+use Rattle.qc_machine.specs.Names.{app_unknown, resource_unknown, table_unknown}
 use Rattle.qc_machine.specs.Recorded.{called_by, if_called, if_recorded, if_refused}
 use Rattle.qc_machine.specs.Refuse.{first_some, is_of_line}
-use Rattle.qc_machine.specs.Sending.{no_room_for}
-use Rattle.qc_machine.specs.Slots.{out_of_slots, client_busy, client_idle}
-use Rattle.qc_machine.specs.State.{State, at_moment, in_slot}
+use Rattle.qc_machine.specs.Sending.{too_many, no_room_for}
+use Rattle.qc_machine.specs.Rooms.{journal_full}
+use Rattle.qc_machine.specs.Switching.{fact_switched}
+use Rattle.qc_machine.specs.Taking.{app_off, app_none_due, app_not_built, no_room_to_take}
+use Rattle.qc_machine.specs.Slots.{out_of_slots, client_busy, player_busy, idle, stage_unless, has_calls, can_end, has_ended}
+use Rattle.qc_machine.specs.State.{State, at_moment, in_slot, fact_room}
 use Rattle.qc_machine.specs.Step.{step, step_of, answer, refusal}
 use Rattle.qc_machine.specs.Steps.{Step, stays}
 
@@ -33,20 +37,20 @@ pub refusal-open : (s : State) (n : ℕ) (app component : List ℕ) → refusal 
 unfolding refusal
 refusal-open s n app component = refl
 
-pub refusal-call : (s : State) (n : ℕ) (call : RawCall) → refusal s (CallSlot n call) ≡ first_some (out_of_slots n ∷ client_idle s.clients n ∷ option_and_then if_refused (called_by s n call) ∷ [])
+pub refusal-call : (s : State) (n : ℕ) (call : RawCall) → refusal s (CallSlot n call) ≡ first_some (out_of_slots n ∷ idle s.clients n ∷ option_and_then if_refused (called_by s n call) ∷ [])
 unfolding refusal
 refusal-call s n call = refl
 
-pub refusal-commit : (s : State) (n : ℕ) → refusal s (CommitSlot n) ≡ first_some (out_of_slots n ∷ client_idle s.clients n ∷ no_room_for s (option_and_then if_called (in_slot n s.clients)) ∷ [])
+pub refusal-commit : (s : State) (n : ℕ) → refusal s (CommitSlot n) ≡ first_some (out_of_slots n ∷ idle s.clients n ∷ too_many s (option_and_then if_called (in_slot n s.clients)) ∷ no_room_for s (option_and_then if_called (in_slot n s.clients)) ∷ [])
 unfolding refusal
 refusal-commit s n = refl
 
-pub refusal-cancel : (s : State) (n : ℕ) → refusal s (CancelSlot n) ≡ first_some (out_of_slots n ∷ client_idle s.clients n ∷ [])
+pub refusal-cancel : (s : State) (n : ℕ) → refusal s (CancelSlot n) ≡ first_some (out_of_slots n ∷ idle s.clients n ∷ [])
 unfolding refusal
 refusal-cancel s n = refl
 
 pub refusal-send : (s : State) (app component : List ℕ) (calls : List RawCall) → refusal s (Send app component calls)
-    ≡ first_some (if_refused (recorded s.history.catalogue app component calls) ∷ no_room_for s (if_recorded (recorded s.history.catalogue app component calls)) ∷ [])
+    ≡ first_some (if_refused (recorded s.history.catalogue app component calls) ∷ too_many s (if_recorded (recorded s.history.catalogue app component calls)) ∷ no_room_for s (if_recorded (recorded s.history.catalogue app component calls)) ∷ [])
 unfolding refusal
 refusal-send s app component calls = refl
 
@@ -58,35 +62,62 @@ pub refusal-table : (s : State) (name : List ℕ) → refusal s (Table name) ≡
 unfolding refusal
 refusal-table s name = refl
 
+pub refusal-outside : (s : State) (name : List ℕ) → refusal s (Outside name) ≡ first_some (resource_unknown s.history.catalogue name ∷ [])
+unfolding refusal
+refusal-outside s name = refl
+
+-- those of orders on attempts
+
+pub refusal-take : (s : State) (n : ℕ) (app : List ℕ) → refusal s (Take n app)
+    ≡ first_some (out_of_slots n ∷ player_busy s.players n ∷ app_unknown s.history.catalogue app ∷ app_off s app ∷ app_none_due s app ∷ app_not_built s app ∷ no_room_to_take s app ∷ [])
+unfolding refusal
+refusal-take s n app = refl
+
+pub refusal-play : (s : State) (n : ℕ) (app : List ℕ) → refusal s (Play n app)
+    ≡ first_some (out_of_slots n ∷ player_busy s.players n ∷ app_unknown s.history.catalogue app ∷ app_off s app ∷ app_none_due s app ∷ app_not_built s app ∷ no_room_to_take s app ∷ [])
+unfolding refusal
+refusal-play s n app = refl
+
+pub refusal-work : (s : State) (n : ℕ) → refusal s (Work n) ≡ first_some (out_of_slots n ∷ idle s.players n ∷ stage_unless has_calls s.players n ∷ [])
+unfolding refusal
+refusal-work s n = refl
+
+pub refusal-end : (s : State) (n : ℕ) → refusal s (End n) ≡ first_some (out_of_slots n ∷ idle s.players n ∷ stage_unless can_end s.players n ∷ [])
+unfolding refusal
+refusal-end s n = refl
+
+pub refusal-phase : (s : State) (n : ℕ) → refusal s (Phase n) ≡ first_some (out_of_slots n ∷ idle s.players n ∷ stage_unless has_ended s.players n ∷ [])
+unfolding refusal
+refusal-phase s n = refl
+
+pub refusal-switch : (s : State) (app : List ℕ) (on : Bool) → refusal s (Switch app on) ≡ first_some (app_unknown s.history.catalogue app ∷ journal_full s (fact_room (fact_switched s app on)) ∷ [])
+unfolding refusal
+refusal-switch s app on = refl
+
 -- each other order isn't built
 
--- the order is none of those that are there
-pub record IsOther (act : Act) : Type 0 where
-  pub open_ : (n : ℕ) (app component : List ℕ) → act ≡ OpenSlot n app component → ⊥
-  pub call : (n : ℕ) (call : RawCall) → act ≡ CallSlot n call → ⊥
-  pub commit : (n : ℕ) → act ≡ CommitSlot n → ⊥
-  pub cancel : (n : ℕ) → act ≡ CancelSlot n → ⊥
-  pub send : (app component : List ℕ) (calls : List RawCall) → act ≡ Send app component calls → ⊥
-  pub queues : (app : List ℕ) → act ≡ Queues app → ⊥
-  pub table : (name : List ℕ) → act ≡ Table name → ⊥
+-- the order is one that isn't there yet
+abbrev pub IsOther : Act → Type 0
+IsOther (Move from to batch) = ⊤
+IsOther _ = ⊥
 
 other-act : (s : State) (at : ℕ) (act : Act) → IsOther act → answer s (at_moment at s) act (refusal (at_moment at s) act) ≡ stays s (Refused NotBuilt)
 unfolding refusal
-other-act s at (Send app component calls) is = absurd (is.send app component calls refl)
-other-act s at (Queues app) is = absurd (is.queues app refl)
-other-act s at (OpenSlot n app component) is = absurd (is.open_ n app component refl)
-other-act s at (CallSlot n call) is = absurd (is.call n call refl)
-other-act s at (CommitSlot n) is = absurd (is.commit n refl)
-other-act s at (CancelSlot n) is = absurd (is.cancel n refl)
-other-act s at (Take n app) is = refl
-other-act s at (Work n) is = refl
-other-act s at (End n) is = refl
-other-act s at (Phase n) is = refl
-other-act s at (Play n app) is = refl
 other-act s at (Move from to batch) is = refl
-other-act s at (Switch app on) is = refl
-other-act s at (Table name) is = absurd (is.table name refl)
-other-act s at (Outside name) is = refl
+other-act s at (Outside name) is = absurd is
+other-act s at (Send app component calls) is = absurd is
+other-act s at (Queues app) is = absurd is
+other-act s at (OpenSlot n app component) is = absurd is
+other-act s at (CallSlot n call) is = absurd is
+other-act s at (CommitSlot n) is = absurd is
+other-act s at (CancelSlot n) is = absurd is
+other-act s at (Take n app) is = absurd is
+other-act s at (Work n) is = absurd is
+other-act s at (End n) is = absurd is
+other-act s at (Phase n) is = absurd is
+other-act s at (Play n app) is = absurd is
+other-act s at (Switch app on) is = absurd is
+other-act s at (Table name) is = absurd is
 
 pub step-other : (s : State) (order : Order) → IsOther order.act → step s order ≡ stays s (Refused NotBuilt)
 unfolding step

@@ -2,6 +2,7 @@
 use Rattle.std.specs.Prelude.{◌≡◌, ℕ, ◌+◌, max, List, [], ◌∷◌, ◌++◌, length, replicate, Option, None, sum_by, codes, true}
 use Rattle.qc_base.specs.declared.fact.Fact.{Fact}
 use Rattle.qc_base.specs.declared.recording.Recording.{Recording}
+use Rattle.qc_base.specs.Rows.{OutsideRows}
 use Rattle.qc_site.specs.Image.{Image}
 use Rattle.qc_site.specs.Disk.{Images}
 use Rattle.qc_frame.specs.Frame.{groups, HasHeader}
@@ -9,7 +10,7 @@ use Rattle.qc_frame.specs.Log.{SameLog}
 use Rattle.qc_journal.specs.History.{SpellsHistory, journal_header}
 use Rattle.qc_machine.specs.declared.limits.Limits.{Limits}
 use Rattle.qc_machine.specs.History.{Reader, History, by_text, history_of, is_legal}
-use Rattle.qc_machine.specs.State.{State, FileEnd}
+use Rattle.qc_machine.specs.State.{State, HeldAttempt, FileEnd}
 
 -- the first 16 bytes of the log of compensations
 abbrev pub log_header : List ℕ
@@ -44,19 +45,24 @@ file_end file = record { gate = end_gate file; size = max (length file) (end_gat
 abbrev pub no_clients : List (Option Recording)
 no_clients = replicate 16 None
 
--- a history as it was read, with the moment of its last fact as the last one seen
-abbrev pub as_read : Limits → History → FileEnd → FileEnd → State
-as_read limits h journal log = record { history = h; last = h.last; clients = no_clients; journal = journal; log = log; limits = limits }
+-- no player holds an attempt
+abbrev pub no_players : List (Option HeldAttempt)
+no_players = replicate 16 None
+
+-- a history and rows as they were read, with the moment of the last fact as the last one seen
+abbrev pub as_read : Limits → History → OutsideRows → FileEnd → FileEnd → State
+as_read limits h rows journal log = record { history = h; rows = rows; last = h.last; clients = no_clients; players = no_players; journal = journal; log = log; limits = limits }
 
 -- the image stands for a history, and is read as this state
 pub record ReadsAs (limits : Limits) (image : Image) (s : State) : Type 0 where
   pub facts : List Fact
   pub stands : StandsFor by_text image facts
-  pub is : s ≡ as_read limits (history_of by_text facts) (file_end image.journal) (file_end image.crm_log)
+  pub is : s ≡ as_read limits (history_of by_text facts) image.rows (file_end image.journal) (file_end image.crm_log)
 
--- the image stands for the history of the state, and its logs end where the state says
+-- the image stands for the history of the state, its rows are the state's, and its logs end where the state says
 pub record IsSiteOf (image : Image) (s : State) : Type 0 where
   pub stands : StandsFor by_text image s.history.facts
+  pub rows : image.rows ≡ s.rows
   pub journal : s.journal ≡ file_end image.journal
   pub log : s.log ≡ file_end image.crm_log
 

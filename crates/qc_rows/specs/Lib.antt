@@ -1,2 +1,5 @@
 pub mod Tables
+pub mod Settling
+pub mod Places
+pub mod Laws
 pub mod Holdings

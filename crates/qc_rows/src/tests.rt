@@ -1,6 +1,6 @@
 use crate::Tables;
-use qc_base::{Amount, Name, NoMemory, Text};
-use qc_catalogue::{Catalogue, sample};
+use qc_base::{Amount, Name, NoMemory, Row, Space, Text};
+use qc_catalogue::{Catalogue, lists_stand_in_order, sample};
 use std::alloc::Global;
 use std::test::Fail;
 
@@ -12,9 +12,20 @@ fn text(bytes: &str) -> Result<Text, NoMemory> {
     Text::read(bytes.as_bytes()).ok_or(NoMemory)
 }
 
+fn row(space: Space, table: &str, key: &str) -> Result<Row, NoMemory> {
+    Ok(Row {
+        space,
+        name: name(table)?,
+        key: text(key)?,
+    })
+}
+
 // The tables of a text, where it is a catalogue and there is memory.
 fn tables_of(alloc: Global, text: &[u8]) -> Option<Tables> {
-    let catalogue = Catalogue::read(alloc, text).ok()?;
+    let Ok(catalogue) = Catalogue::read(alloc, text) else {
+        return None;
+    };
+    lists_stand_in_order();
     Tables::make(alloc, &catalogue).ok()
 }
 
@@ -47,6 +58,18 @@ fn lists(
         }
     }
     Ok(true)
+}
+
+// Sets places aside for two rows, and settles them.
+fn settle(
+    alloc: Global,
+    tables: &mut Tables,
+    first: &(Row, Option<Amount>),
+    second: &(Row, Option<Amount>),
+) -> Result<(), NoMemory> {
+    tables.reserve(alloc, &[first.0, second.0])?;
+    tables.apply_view(&[*first, *second]);
+    Ok(())
 }
 
 #[test]
@@ -83,5 +106,35 @@ fn a_row_that_was_never_set_is_0(rt: HostRuntime) -> Result<(), Fail> {
     assert_eq!(rt; tables.amount(&name("none")?, &text("nut")?), 0);
     let none = Tables::none(alloc);
     assert_eq!(rt; none.amount(&name("stock")?, &text("nut")?), 0);
+    Ok(())
+}
+
+#[test]
+fn a_view_settles_its_inside_rows(rt: HostRuntime) -> Result<(), Fail> {
+    let alloc = rt.alloc();
+    let mut tables = tables_of(alloc, sample().as_bytes()).ok_or("no tables")?;
+    let bolt = row(Space::Inside, "stock", "bolt")?;
+    let axle = row(Space::Inside, "stock", "axle")?;
+    let sold = row(Space::Inside, "sold", "bolt")?;
+    let outside = row(Space::Outside, "stock", "nut")?;
+    let none = Amount::new(0);
+    let three = Amount::new(3);
+    let seven = Amount::new(7);
+    settle(alloc, &mut tables, &(bolt, none), &(axle, seven))?;
+    assert!(rt; lists(alloc, &tables, "stock", &[("axle", 7), ("nut", 3)])?);
+    settle(alloc, &mut tables, &(outside, seven), &(sold, three))?;
+    settle(alloc, &mut tables, &(axle, None), &(bolt, three))?;
+    assert!(rt;
+        lists(
+            alloc,
+            &tables,
+            "stock",
+            &[("axle", 7), ("bolt", 3), ("nut", 3)]
+        )?
+    );
+    assert!(rt; lists(alloc, &tables, "sold", &[("bolt", 3)])?);
+    assert_eq!(rt; tables.total(&name("stock")?), 13);
+    let copied = tables.copy_rows(alloc, &[axle, sold])?;
+    assert!(rt; copied.len() == 2 && copied[0].get() == 7 && copied[1].get() == 3);
     Ok(())
 }

@@ -1,2 +1,4 @@
-mod Ending
-mod PartsAt
+mod CallsLeft
+pub mod Ending
+pub mod PartsAt
+pub mod Quiet

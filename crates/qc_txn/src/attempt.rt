@@ -1,11 +1,12 @@
 // An attempt on a message, call by call.
 ghost use Rattle.std.specs.Prelude.{◌≡◌, ◌+◌, ◌-◌, ◌≤◌, ◌<◌, ◌⊎◌, length, true, IfOk, slice_get};
 ghost use Rattle.qc_base.specs.declared.log_line.Stage.TheVariants.{Calls as calls_stage, Ready as ready_stage, Failing as failing_stage};
+ghost use Rattle.qc_play.specs.Play.{rows_in};
 ghost use Rattle.qc_txn.specs.Attempt.{IsAttempt, PlaysBy, RunsNext, begun, count_of, decided, effects_in, result_by, stage_after, stage_by, voted, why_at_end};
 ghost use Rattle.qc_txn.specs.Parts.{is_playable, parts_of};
 
 use crate::parts::{count_of, part_at};
-use qc_base::{Kind, Name, NoMemory, Recording, Stage, Why};
+use qc_base::{Kind, Name, NoMemory, Recording, Row, Stage, Why};
 use qc_catalogue::Catalogue;
 use qc_play::{CallState, run_call};
 use std::alloc::Global;
@@ -102,6 +103,34 @@ impl Attempt {
         })
     }
 
+    /// The id of its message.
+    pub fn id(&self) -> u64
+        ensures { result ≡ self.now.id }
+    {
+        self.id
+    }
+
+    /// Its number among all attempts.
+    pub fn number(&self) -> u64
+        ensures { result ≡ self.now.number }
+    {
+        self.number
+    }
+
+    /// Whether it is a normal attempt or a final one.
+    pub fn kind(&self) -> Kind
+        ensures { result ≡ self.now.kind }
+    {
+        self.kind
+    }
+
+    /// Why it fails, as far as that is known.
+    pub fn why(&self) -> Option<Why>
+        ensures { result ≡ self.now.why }
+    {
+        self.why
+    }
+
     /// How far it has come.
     pub fn stage(&self) -> Stage
         ensures stage { result ≡ self.now.stage }
@@ -123,6 +152,17 @@ impl Attempt {
         ensures room { result.now.room ≡ self.now.room }
     {
         &self.state
+    }
+
+    /// The rows that it sees. The error is want of memory.
+    pub fn rows(&self, alloc: Global) -> Result<Vec<Row>, NoMemory>
+        ensures { IfOk result (λ rows. rows.items ≡ rows_in self.now.play.view) }
+    {
+        let mut rows = Vec::new(alloc);
+        for seen in self.state.view() {
+            rows.push(seen.0).map_err(|_| NoMemory)?;
+        }
+        Ok(rows)
     }
 
     /// Runs the next call by the catalogue that it plays by, and tells its number; or, where a step fails, that step. A

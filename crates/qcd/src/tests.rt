@@ -15,10 +15,14 @@ const SEND: &str = "{\"at\":0,\"do\":\"send\",\"app\":\"Orders\",\"component\":\
 
 const LIST: &str = "{\"at\":0,\"do\":\"queues\",\"app\":\"Orders\"}\n";
 
+const TILL: &str = "{\"at\":0,\"do\":\"outside\",\"resource\":\"till\"}\n";
+
 const SENT: &str = "sent 1\n";
 
 const LISTED: &str = "queues Orders 1/0/0; Orders_0; Orders_1; Orders_2; Orders_3; Orders_4; \
     Orders_DeadQueue; consumed 0\n";
+
+const TILL_SHOWN: &str = "outside till \"drawer\" 100; total 100\n";
 
 // Carries out the words, which blanks part, and gives the status and what was written.
 fn run(rt: &HostRuntime, line: &str, input: &str) -> Result<(Status, MemSink), Fail> {
@@ -50,6 +54,7 @@ fn a_site_in_a_folder_is_there_for_the_next_run(rt: HostRuntime) -> Result<(), F
         ("kept init", sample(), Status::AlreadyMade, ""),
         ("kept drill", SEND, Status::Done, SENT),
         ("kept drill", LIST, Status::Done, LISTED),
+        ("kept drill", TILL, Status::Done, TILL_SHOWN),
     ];
     for (line, input, status, said) in table {
         let (ended, sink) = run(&rt, line, input)?;

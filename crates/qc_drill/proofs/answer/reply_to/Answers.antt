@@ -11,6 +11,7 @@ use Rattle.qc_orders.specs.Orders.{TellsLine}
 use Rattle.qc_hub.specs.Calls.{StepsBy}
 use Rattle.qc_machine.specs.Step.{step}
 use Rattle.qc_hub.proofs.Calling.{handed_on, starved}
+use Rattle.qc_hub.proofs.Later.{took-nothing}
 use Rattle.qc_drill.specs.Drill.{asked, asked_at, asked_step, line_step}
 use Rattle.qc_drill.proofs.Orders.{asked-short, asked-long, refused-line}
 use Rattle.qc_drill.proofs.answer.reply_to.Goals as goal
@@ -38,4 +39,4 @@ returns-in-Err-Malformed g c =
     (refused-line g.S.Site c.args.line.now (NoOrder m) c.args.hub.now c.args.site.now (λ i told left. g.met.S.Site.only_now c.args.site.now i told left) c.requires (asked-short c.args.line.now (Err m) tells.0 tells.1))
 
 pub returns-in-Err-NoMemory : goal.returns-in-Err-NoMemory
-returns-in-Err-NoMemory g c = starved g.S.Site _ (λ s. line_step s c.args.line.now) _ c.args.hub.now c.args.hub.now c.args.site.now (λ i told left. g.met.S.Site.only_now c.args.site.now i told left) c.requires (inl refl) refl
+returns-in-Err-NoMemory g c = starved g.S.Site _ (λ s. line_step s c.args.line.now) _ c.args.hub.now c.args.hub.now c.args.site.now (λ i told left. g.met.S.Site.only_now c.args.site.now i told left) c.requires (inl (took-nothing c.args.hub.now)) refl

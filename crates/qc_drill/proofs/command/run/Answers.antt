@@ -4,6 +4,7 @@ use Rattle.qc_hub.proofs.Later.{not-both}
 use Rattle.qc_drill.specs.Headline.{is_of_drill}
 use Rattle.qc_drill.specs.Inits.{is_of_init}
 use Rattle.qc_drill.proofs.Ends.{of-run, of-run-init, not-among, words-apart, was-made-before, not-bad, done-end, init-end, long-input, all-moments, not-made, no-group, damaged-none, is-unfailed, is-unmade, is-empty}
+use Rattle.qc_drill.proofs.Accounts.{accounted}
 use Rattle.qc_drill.proofs.command.run.Goals as goal
 
 pub returns-then-is_drill-clause-bad_words : goal.returns-then-is_drill-clause-bad_words
@@ -117,3 +118,12 @@ returns-then-is_init-clause-empty g c = λ told word. absurd (not-both _ (sym c.
 
 pub returns-clause-bad_words : goal.returns-clause-bad_words
 returns-clause-bad_words g c = (λ e. (sym c.is_drill.ensures ∙ c.if-is_drill.false, sym c.is_init.ensures ∙ c.if-is_init.false), λ e. refl)
+
+pub returns-then-is_drill-clause-accounts : goal.returns-then-is_drill-clause-accounts
+returns-then-is_drill-clause-accounts g c = (λ told. accounted (g.S.Site.shown c.drill.new.site), λ image left. accounted image)
+
+pub returns-then-is_init-clause-accounts : goal.returns-then-is_init-clause-accounts
+returns-then-is_init-clause-accounts g c = (λ told. accounted (g.S.Site.shown c.init.new.site), λ image left. accounted image)
+
+pub returns-clause-accounts : goal.returns-clause-accounts
+returns-clause-accounts g c = (λ told. accounted (g.S.Site.shown c.args.site.now), λ image left. accounted image)

@@ -18,5 +18,5 @@ returns c = λ image journal log. record {
     legal = sample-some c.the_sample_is_a_catalogue.ensures;
     unused = ap groups log;
   };
-  is = λ i. as_read programs_limits (history_of by_text made_facts) (file_end (sym journal i)) (file_end (sym log i));
+  is = λ i. as_read programs_limits (history_of by_text made_facts) image.rows (file_end (sym journal i)) (file_end (sym log i));
 }

@@ -18,7 +18,7 @@ use Rattle.qc_drill.proofs.worked.a_send_is_listed.Goals as goal
 
 pub returns-clause-start : goal.returns-clause-start
 unfolding size_at size_bytes four_bytes
-returns-clause-start c = λ image journal log. record {
+returns-clause-start c = λ image journal log rows. record {
   facts = made_facts;
   stands = record {
     headers = record { journal = ap (take 16) journal; log = ap (take 16) log };
@@ -26,7 +26,7 @@ returns-clause-start c = λ image journal log. record {
     legal = sample-some c.the_sample_is_a_catalogue.ensures;
     unused = ap groups log;
   };
-  is = λ i. as_read programs_limits (history_of by_text made_facts) (file_end (sym journal i)) (file_end (sym log i));
+  is = λ i. as_read programs_limits (history_of by_text made_facts) (sym rows i) (file_end (sym journal i)) (file_end (sym log i));
 }
 
 pub returns-clause-orders : goal.returns-clause-orders
@@ -48,7 +48,7 @@ returns-clause-group c =
 
 pub returns-clause-journal : goal.returns-clause-journal
 unfolding is_utf8 chars encode two_bytes four_bytes eight_bytes size_at size_bytes step refusal serde_json_on_literals
-returns-clause-journal c = λ image journal log.
+returns-clause-journal c = λ image journal log rows.
     subst (λ (k : Catalogue). IsSiteOf image (run_to (made_by k programs_limits) send_and_queues)) (sym (sample-read c.the_sample_is_a_catalogue.ensures)) (record {
       stands = record {
         headers = record { journal = ap (take 16) journal; log = ap (take 16) log };
@@ -56,6 +56,7 @@ returns-clause-journal c = λ image journal log.
         legal = sample-sent c.the_sample_is_a_catalogue.ensures;
         unused = ap groups log;
       };
+      rows = rows;
       journal = sym (ap file_end journal);
       log = sym (ap file_end log);
     })

@@ -1,143 +1,83 @@
-use Rattle.std.proofs.Common.{◌≡◌, ◌≤◌, ℕ, ◌+◌, List, [], ◌∷◌, ◌++◌, Bool, false, true, length, take, refl, sym, ◌∙◌, ap, subst, arith, inl, inr, rules}
-use Rattle.std.proofs.lemmas.Bool.{false≢true}
-use Rattle.qc_base.specs.declared.message.Message.{Message}
+use Rattle.std.proofs.Common.{◌≡◌, ◌∙◌, ◌≤◌, ◌+◌, length, refl, sym, ap, subst, rules, Err}
+use Rattle.std.specs.declared.result.Result.{Result}
 use Rattle.qc_base.specs.declared.recording.Recording.{Recording}
-use Rattle.qc_base.specs.Messages.{after_sent}
+use Rattle.qc_protocol.specs.declared.reply.Reply.{Reply}
 use Rattle.qc_protocol.specs.declared.reply.Reply.TheVariants.{Sent}
-use Rattle.qc_site.specs.declared.site.SiteFile.TheVariants.{Journal}
-use Rattle.qc_site.specs.Disk.{LeavesOnly}
-use Rattle.qc_site.specs.Image.{Image}
-use Rattle.qc_site.proofs.Moments.{weaker}
-use Rattle.qc_frame.specs.Calls.{LogStands}
-use Rattle.qc_frame.specs.Frame.{groups_at}
-use Rattle.qc_frame.specs.Gate.{After}
-use Rattle.qc_frame.specs.Log.{WholeOrNotFrom}
-use Rattle.qc_journal.specs.History.{fact_payload}
-use Rattle.qc_journal.specs.Journal.{JournalView}
-use Rattle.qc_machine.specs.History.{names_exception}
-use Rattle.qc_machine.specs.Sending.{added}
-use Rattle.qc_machine.specs.Sites.{IsSiteOf, LeavesOneOf}
-use Rattle.qc_machine.specs.State.{State, with_new_fact}
-use Rattle.qc_machine.specs.Steps.{IsBetween}
-use Rattle.qc_machine.proofs.Images.{facts-few, stays-journal}
+use Rattle.qc_store.specs.Stored.{Stored}
+use Rattle.qc_history.specs.Adding.{HasRoomFor}
+use Rattle.qc_history.specs.View.{HistoryView}
+use Rattle.qc_machine.specs.Sending.{added, fact_sent}
+use Rattle.qc_machine.specs.State.{State}
+use Rattle.qc_hub.specs.declared.error.HubError.{HubError}
+use Rattle.qc_hub.specs.declared.error.HubError.TheVariants.{SiteFault}
 use Rattle.qc_hub.specs.declared.hub.Hub.{Hub}
-use Rattle.qc_hub.specs.Stands.{IsHubOf, AreNumbered}
-use Rattle.qc_hub.proofs.Added.{Grown, fits-in, grown-site, grown-hub, grown-legal, numbered-push, crash-between}
-use Rattle.qc_hub.proofs.Calling.{journal-certain, log-certain, hurt-after}
-use Rattle.qc_hub.proofs.Later.{not-both}
-use Rattle.qc_hub.proofs.Logs.{other-stands}
+use Rattle.qc_hub.specs.Calls.{StepsBy}
+use Rattle.qc_hub.specs.Stands.{IsHubOf}
+use Rattle.qc_hub.proofs.Added.{fact-failed, fact-stands}
+use Rattle.qc_hub.proofs.AddedSent.{adds-here, sent-can, sent-grows, sent-in, sent-legal, sent-limits, short-calls}
+use Rattle.qc_hub.proofs.Later.{state-of}
 use Rattle.qc_hub.proofs.hub.Hub.add_sent.Goals as goal
 
-pub returns-in_default-clause-steps : goal.returns-in_default-clause-steps
-returns-in_default-clause-steps g c =
-    let site = g.S.Site in
-    let hub : Hub = c.args.self.now in
+pub append-requires-clause-stands : goal.append-requires-clause-stands
+append-requires-clause-stands g c = (c.requires.ready.stands.sound c.requires.ready.no_fault).journal
+
+pub append-requires-clause-can : goal.append-requires-clause-can
+append-requires-clause-can g c =
+    let count : c.len.result ≡ length c.args.self.now.history.store.messages = c.len.ensures.value ∙ ap (λ (s : Stored). length s.messages) c.store.ensures in
     let sound = c.requires.ready.stands.sound c.requires.ready.no_fault in
-    let before = site.shown c.args.site.now in
-    let images = site.may_leave c.args.site.now in
-    let crash : site.told → (s : State) → IsHubOf hub s → IsSiteOf before s → LeavesOnly site.moment site.left_since c.args.site.now c.append_forced.new.site (LeavesOneOf images (IsBetween s (added c.args.fact s)))
-    = λ told s h on.
-    let legal = grown-legal hub c.args.fact _ _ c.requires.sent.recording s h on.stands.legal c.requires.sent.is refl refl c.requires.limits (fits-in hub s _ h (c.requires.sent.fits told)) in
-    weaker site.moment site.left_since _ _ _ _
-    (crash-between images c.args.fact before s on (journal-certain site hub c.args.site.now sound told) (log-certain site hub c.args.site.now sound told) c.requires.limits legal)
-    (subst (λ (n : ℕ). LeavesOnly site.moment site.left_since c.args.site.now c.append_forced.new.site (After Journal (WholeOrNotFrom n (fact_payload c.args.fact)) images)) sound.whole (c.append_forced.ensures.makes.changes.any_moment told)) in
-    record {
-      told = λ told s h on. record { answer = tt; starved = λ e. absurd cc; others = λ fine. absurd (fine refl); any_moment = crash told s h on };
-      moment = λ e. omega arith;
-      leaves = record {
-        stands = record {
-          sound = λ e. absurd cc;
-          hurt = λ e told d here.
-              let was = sound.state told in
-              hurt-after site was.state (added c.args.fact was.state) c.args.site.now c.append_forced.new.site (λ i now. g.met.S.Site.counts_now c.append_forced.new.site (site.moment c.args.site.now) i told (crash told was.state was.is_in was.on_site).later now) (crash told was.state was.is_in was.on_site) d here;
-        };
-        limits = refl;
-        hurt = λ e. refl;
-        unhurt = λ e. inl refl;
-        cause = search rules;
-      };
-    }
+    sent-can c.args.self.now c.len.result c.args.recording count c.len.ensures.bound c.requires.limits c.requires.fits sound.state.state sound.state.is_in sound.ended c.requires.room
+
+pub append-requires-clause-counted : goal.append-requires-clause-counted
+append-requires-clause-counted g c = (c.requires.ready.stands.sound c.requires.ready.no_fault).state.is_in.fit.counted
+
+pub returns-in_err-append-clause-steps : goal.returns-in_err-append-clause-steps
+returns-in_err-append-clause-steps g c =
+    let count : c.len.result ≡ length c.args.self.now.history.store.messages = c.len.ensures.value ∙ ap (λ (s : Stored). length s.messages) c.store.ensures in
+    let hub : Hub = c.args.self.now in
+    let n = c.len.result in
+    let r : Recording = c.args.recording in
+    let limits = sent-limits hub n r count c.len.ensures.bound c.requires.limits c.requires.fits in
+    let was = state-of g.S.Site hub c.args.site.now c.requires.ready in
+    let is : c.from_residual.result ≡ Err SiteFault = search rules in
+    subst (λ (x : Result Reply HubError). StepsBy g.S.Site 0 (λ s. added (fact_sent s r) s) x hub c.args.site.now c.append.new.self c.append.new.site) (sym is)
+    (fact-failed g.S.Site hub c.args.site.now c.append.new.site _ (λ s. added (fact_sent s r) s) c.requires.ready (limits was.state was.is_in)
+    (sent-grows hub n r count c.len.ensures.bound c.requires.limits c.requires.fits) (sent-legal hub n r count c.len.ensures.bound c.requires.limits c.requires.fits)
+    (λ t i told le here. g.met.S.Site.counts_now c.append.new.site t i told le here) c.append.new.self c.in_err-append.field-0.0 c.in_err-append.ensures.appends
+    (ap (λ (h : Hub). h.last) c.in_err-append.ensures.failed.1) (ap (λ (h : Hub). h.limits) c.in_err-append.ensures.failed.1) (ap (λ (h : Hub). h.in_fault) c.in_err-append.ensures.failed.1))
+
+pub sent-id-requires-clause-room : goal.sent-id-requires-clause-room
+sent-id-requires-clause-room g c =
+    let same : c.sent_recording.result ≡ c.args.recording = c.sent_recording.ensures _ _ _ refl in
+    let history : c.append.new.self.history ≡ c.args.self.now.history = ap (λ (h : Hub). h.history) c.in_ok-append.ensures.kept in
+    subst (λ (v : HistoryView). HasRoomFor c.sent_recording.result v) (sym history) (subst (λ (r : Recording). HasRoomFor r c.args.self.now.history) (sym same) c.requires.room.history)
+
+pub sent-id-requires-clause-short : goal.sent-id-requires-clause-short
+sent-id-requires-clause-short g c =
+    let same : c.sent_recording.result ≡ c.args.recording = c.sent_recording.ensures _ _ _ refl in
+    subst (λ (r : Recording). length r.calls ≤ 64) (sym same) (short-calls c.args.recording c.requires.limits)
 
 pub returns-clause-steps : goal.returns-clause-steps
 returns-clause-steps g c =
-    let site = g.S.Site in
     let hub : Hub = c.args.self.now in
-    let new : Hub = record hub { journal = c.append_forced.new.self; store = c.insert.new.self; facts = c.saturating_add-self.result } in
-    let sound = c.requires.ready.stands.sound c.requires.ready.no_fault in
-    let before = site.shown c.args.site.now in
-    let after = site.shown c.append_forced.new.site in
-    let images = site.may_leave c.args.site.now in
-    let recording : Recording = c.requires.sent.recording in
-    let count : c.len-id.result ≡ length hub.store.messages = c.len-id.ensures.value in
-    let same : c.sent_recording-recording.result ≡ recording = c.sent_recording-recording.ensures _ _ _ c.requires.sent.is in
-    let store : new.store.messages ≡ after_sent (length hub.store.messages + 1) recording (names_exception hub.catalogue recording) hub.last hub.store.messages
-    = c.insert.ensures.messages
-    ∙ ap (λ (b : Bool). after_sent (c.len-id.result + 1) c.sent_recording-recording.result b hub.last hub.store.messages) c.names_exception-final_class.ensures
-    ∙ ap (λ (r : Recording). after_sent (c.len-id.result + 1) r (names_exception hub.catalogue r) hub.last hub.store.messages) same
-    ∙ ap (λ (n : ℕ). after_sent (n + 1) recording (names_exception hub.catalogue recording) hub.last hub.store.messages) count in
-    let counted : (s : State) → site.told → IsHubOf hub s → IsSiteOf before s → c.saturating_add-self.result ≡ hub.facts + 1
-    = λ s told h on.
-    let few = facts-few before.journal s.history.facts on.stands.spelled in
-    let short = (g.met.S.Site.short_images c.args.site.now before told (g.met.S.Site.shows_image c.args.site.now told)).journal in
-    c.saturating_add-self.ensures ∙ omega (arith, h.counted, few, short) in
-    let grown : site.told → (s : State) → IsHubOf hub s → IsSiteOf before s → Grown hub new c.args.fact (length hub.store.messages + 1) hub.last recording before.journal after.journal
-    = λ told s h on.
-    let whole = c.in-Ok.ensures.made told in
-    record {
-      is = c.requires.sent.is;
-      next = refl;
-      moment = refl;
-      fits = c.requires.limits;
-      there = λ t k. fits-in hub t recording k (c.requires.sent.fits told);
-      catalogue = refl;
-      tables = refl;
-      clients = refl;
-      store = store;
-      counted = counted s told h on;
-      journal = c.in-Ok.ensures.journal;
-      log = refl;
-      last = refl;
-      limits = refl;
-      front = subst (λ (n : ℕ). take n after.journal ≡ take n before.journal) sound.whole whole.whole.front;
-      more = subst (λ (n : ℕ). groups_at after.journal n ≡ groups_at before.journal n ++ fact_payload c.args.fact ∷ []) sound.whole whole.whole.more;
-      was_long = (sound.journal told).size;
-      is_long = (c.in-Ok.ensures.makes.stands told).size;
-    } in
-    let log : site.told → after.crm_log ≡ before.crm_log = λ told. ap (λ (i : Image). i.crm_log) (c.in-Ok.ensures.made told).shown in
-    let is_in : site.told → (s : State) → IsHubOf hub s → IsSiteOf before s → IsHubOf new (with_new_fact c.args.fact s) = λ told s h on. grown-hub hub new c.args.fact _ _ recording _ _ s h (grown told s h on) in
-    let on_site : site.told → (s : State) → IsHubOf hub s → IsSiteOf before s → IsSiteOf after (with_new_fact c.args.fact s) = λ told s h on. grown-site hub new c.args.fact _ _ recording before after s h on (log told) (grown told s h on) in
-    let crash : site.told → (s : State) → IsHubOf hub s → IsSiteOf before s → LeavesOnly site.moment site.left_since c.args.site.now c.append_forced.new.site (LeavesOneOf images (IsBetween s (added c.args.fact s)))
-    = λ told s h on.
-    let legal = grown-legal hub c.args.fact _ _ recording s h on.stands.legal c.requires.sent.is refl refl c.requires.limits (fits-in hub s _ h (c.requires.sent.fits told)) in
-    weaker site.moment site.left_since _ _ _ _
-    (crash-between images c.args.fact before s on (journal-certain site hub c.args.site.now sound told) (log-certain site hub c.args.site.now sound told) c.requires.limits legal)
-    (subst (λ (n : ℕ). LeavesOnly site.moment site.left_since c.args.site.now c.append_forced.new.site (After Journal (WholeOrNotFrom n (fact_payload c.args.fact)) images)) sound.whole (c.append_forced.ensures.makes.changes.any_moment told)) in
-    record {
-      told = λ told s h on. record {
-        answer = record { replies = ap (λ (n : ℕ). Sent (n + 1)) (count ∙ ap length h.messages); is_in = is_in told s h on; on_site = on_site told s h on };
-        starved = λ e. absurd cc;
-        others = λ fine. stays-journal before after _ (c.in-Ok.ensures.made told).shown;
-        any_moment = crash told s h on;
-      };
-      moment = λ e. absurd cc;
-      leaves = record {
-        stands = record {
-          sound = λ e. record {
-            journal = c.in-Ok.ensures.makes.stands;
-            whole = ap (λ (j : JournalView). j.start) c.in-Ok.ensures.journal ∙ sound.whole;
-            ended = ap (λ (j : JournalView). j.ended) c.in-Ok.ensures.journal ∙ sound.ended;
-            log = other-stands site _ hub.log c.args.site.now c.append_forced.new.site sound.unused.file (λ i told now. g.met.S.Site.counts_now c.append_forced.new.site (site.moment c.args.site.now) i told ((c.append_forced.ensures.makes.changes.any_moment told).later) now) (λ e. false≢true e) c.in-Ok.ensures.makes.changes sound.log;
-            unused = sound.unused;
-            numbered = subst AreNumbered (sym store) (numbered-push hub.store.messages _ _ _ _ sound.numbered refl);
-            state = λ told.
-                let was = sound.state told in
-                record { state = with_new_fact c.args.fact was.state; is_in = is_in told was.state was.is_in was.on_site; on_site = on_site told was.state was.is_in was.on_site };
-          };
-          hurt = λ e told d here. absurd (not-both hub.in_fault c.requires.ready.no_fault e);
-        };
-        limits = refl;
-        hurt = λ e. absurd cc;
-        unhurt = λ e. inr e;
-        cause = search rules;
-      };
-    }
+    let n = c.len.result in
+    let r : Recording = c.args.recording in
+    let mid : Hub = c.append.new.self in
+    let count : c.len.result ≡ length hub.history.store.messages = c.len.ensures.value ∙ ap (λ (s : Stored). length s.messages) c.store.ensures in
+    let bound = c.len.ensures.bound in
+    let kept = c.in_ok-append.ensures.kept in
+    let history : mid.history ≡ hub.history = ap (λ (h : Hub). h.history) kept in
+    let last : mid.last ≡ hub.last = ap (λ (h : Hub). h.last) kept in
+    let same : c.sent_recording.result ≡ r = c.sent_recording.ensures _ _ _ refl in
+    let adds = adds-here mid.history hub.history c.sent-id.new.self mid.last hub.last c.sent_recording.result r history last same c.sent-id.ensures.adds in
+    let limits = sent-limits hub n r count bound c.requires.limits c.requires.fits in
+    let was = state-of g.S.Site hub c.args.site.now c.requires.ready in
+    let new : Hub = record mid { history = c.sent-id.new.self } in
+    let is : new ≡ record hub { journal = mid.journal; history = c.sent-id.new.self } = ap (λ (h : Hub). let x : Hub = record h { history = c.sent-id.new.self } in x) kept in
+    let is_in : (s : State) → IsHubOf hub s → IsHubOf new (added (fact_sent s r) s).state = λ s h.
+    subst (λ (x : Hub). IsHubOf x (added (fact_sent s r) s).state) (sym is)
+    (sent-in hub n r count bound c.requires.limits c.requires.fits mid.journal c.sent-id.new.self c.in_ok-append.ensures.appends.journal c.in_ok-append.ensures.few adds s h) in
+    fact-stands g.S.Site hub c.args.site.now c.append.new.site _ (λ s. added (fact_sent s r) s) c.requires.ready (limits was.state was.is_in)
+    (sent-grows hub n r count bound c.requires.limits c.requires.fits) (sent-legal hub n r count bound c.requires.limits c.requires.fits)
+    (λ t i told le here. g.met.S.Site.counts_now c.append.new.site t i told le here) new c.in_ok-append.field-0 c.in_ok-append.ensures.appends
+    (ap (λ (h : Hub). h.log) kept) last (ap (λ (h : Hub). h.limits) kept) (ap (λ (h : Hub). h.in_fault) kept) is_in (Sent c.sent-id.result)
+    (λ s h. ap Sent (c.sent-id.ensures.id ∙ ap (λ (v : HistoryView). length v.store.messages + 1) history ∙ ap (λ l. length l + 1) h.history.messages))

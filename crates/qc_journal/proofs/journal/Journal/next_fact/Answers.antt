@@ -71,6 +71,9 @@ returns-clause-finds g c = record {
       subst (λ n. NextFact shown.journal c.args.self.now (journal_of mid.log) n fact) (first_at file old mid c.in-Some.at next first) found);
   still = search rules;
   end = search rules;
+  limits =
+      let read = subst (λ o. IfSome o (λ (x : Fact). (is_fact x ≡ true) × (map (λ (e : Entry). e.bytes) c.left.result.now ≡ spelled_fact x ∷ []))) c.in-Some-2.is c.in_ok-fact.ensures.some in
+      read.0;
   moved = search rules;
   onward =
       let old : EntriesView = c.self.inside.entries in

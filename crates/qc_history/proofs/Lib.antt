@@ -1,0 +1,10 @@
+pub mod Again
+pub mod Aside
+pub mod Begins
+pub mod Follows
+pub mod Found
+pub mod Kept
+pub mod Numbers
+pub mod Settled
+pub mod Switched
+pub mod Taken

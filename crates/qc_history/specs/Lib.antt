@@ -1,0 +1,6 @@
+pub mod Adding
+pub mod Playing
+pub mod Stands
+pub mod Switches
+pub mod Taking
+pub mod View
