@@ -9,14 +9,14 @@ use Rattle.std.proofs.lemmas.List.Elements.{filter-append, filter_map-append}
 use Rattle.std.proofs.lemmas.List.Folds.{list_any-append}
 use Rattle.qc_base.specs.declared.log_line.LogRecord.{LogRecord}
 use Rattle.qc_base.specs.declared.log_line.LogLine.{LogLine}
-use Rattle.qc_base.specs.declared.log_line.LogLine.TheVariants.{Opened, Registered, Written, Forgot}
-use Rattle.qc_base.specs.LogLines.{Entry, Registration, opened_by, is_opened, is_registered, registrations, of_resource, unforgotten}
+use Rattle.qc_base.specs.declared.log_line.LogLine.TheVariants.{Opened, Registered, Written, Forgot, Done}
+use Rattle.qc_base.specs.LogLines.{Entry, Registration, opened_by, is_opened, is_done, is_unfinished, is_registered, registrations, of_resource, unforgotten}
 use Rattle.crm_clerk.specs.Accounts.{Account, account_of, with_account, new_account, next_entry, written_to, without_seq, without}
 use Rattle.crm_clerk.specs.Clerk.{records_in, unless, opening_lines}
 use Rattle.crm_clerk.specs.Keeps.{account_by, are_numbered, are_distinct, is_begun, Keeps}
 use Rattle.crm_clerk.proofs.Names.{bytes-same, bytes-flip}
 use Rattle.crm_clerk.proofs.Numbered.{those, same-number, numbered-more, others-without, those-less}
-use Rattle.crm_clerk.proofs.Said.{is_named, unforgotten-those, SaysMore, says-opened, says-registered, says-on, written-registered, written-opened, written-records, written-named, forgot-registered, forgot-opened, forgot-records, forgot-named}
+use Rattle.crm_clerk.proofs.Said.{is_named, unforgotten-those, not-done, SaysMore, says-opened, says-registered, says-on, written-registered, written-opened, written-records, written-named, forgot-registered, forgot-opened, forgot-records, forgot-named}
 
 -- whether one of these has the name
 abbrev pub has_name : List ℕ → List Registration → Bool
@@ -143,6 +143,7 @@ keeps-registered attempt lines now accounts r k new says opened =
       number = k.number;
       kept = sym (ap (map (account_by now attempt)) says.registered ∙ map-append (account_by now attempt) before (r ∷ []) ∙ (λ i. same i ++ own i ∷ []));
       opened = opened ∙ sym (ap is_begun says.registered ∙ begun-more before r);
+      going = says.done ∙ k.going;
       distinct = ap are_distinct says.registered ∙ distinct-more before r k.distinct new;
       known = λ resource stranger.
           let told : (has_name resource before || has_name resource (r ∷ [])) ≡ false = sym (ap (has_name resource) says.registered ∙ list_any-append (λ (x : Registration). bytes_eq x.resource resource) before (r ∷ [])) ∙ stranger in
@@ -158,7 +159,7 @@ own-record resource other r true is = ap (λ (b : Bool). map (λ (e : Entry). e.
 own-record resource other r false is = ap (λ (b : Bool). map (λ (e : Entry). e.entry) (cond b ((record { resource = resource; entry = r }) ∷ []) [])) is
 
 module _ (attempt : ℕ) (resource : List ℕ) (e : LogRecord) (lines : List LogLine) where
-  abbrev behind_written : List LogLine
+  abbrev pub behind_written : List LogLine
   behind_written = lines ++ Written attempt resource e ∷ []
 
   records-own : (other : List ℕ) → bytes_eq resource other ≡ true → records_in behind_written attempt other ≡ records_in lines attempt other ++ e ∷ []
@@ -168,7 +169,7 @@ module _ (attempt : ℕ) (resource : List ℕ) (e : LogRecord) (lines : List Log
   records-other other is = written-records attempt resource other e lines ∙ ap (λ (l : List LogRecord). records_in lines attempt other ++ l) (own-record resource other e false is) ∙ append-nil (records_in lines attempt other)
 
   -- the new record isn't forgotten
-  unforgotten-own : (other : List ℕ) → bytes_eq resource other ≡ true → is_named lines attempt other e.seq ≡ false → unforgotten behind_written attempt other ≡ unforgotten lines attempt other ++ e ∷ []
+  pub unforgotten-own : (other : List ℕ) → bytes_eq resource other ≡ true → is_named lines attempt other e.seq ≡ false → unforgotten behind_written attempt other ≡ unforgotten lines attempt other ++ e ∷ []
   unforgotten-own other is new =
       unforgotten-those behind_written attempt other
       ∙ (λ i. filter (λ (r : LogRecord). not (written-named attempt resource other r.seq e lines i)) (records-own other is i))
@@ -200,6 +201,7 @@ keeps-written attempt lines accounts resource key old new e k there is =
       kept = ap (with_account resource (written_to key old new)) k.kept ∙ map-changed attempt lines now resource (written_to key old new) regs k.distinct own other
           ∙ sym (ap (map (account_by now attempt)) (written-registered attempt resource e lines));
       opened = written-opened attempt resource e lines ∙ k.opened ∙ sym (ap is_begun (written-registered attempt resource e lines));
+      going = not-done attempt lines (Written attempt resource e) refl ∙ k.going;
       distinct = ap are_distinct (written-registered attempt resource e lines) ∙ k.distinct;
       known = λ r stranger.
           let before : is_registered lines attempt r ≡ false = sym (ap (has_name r) (written-registered attempt resource e lines)) ∙ stranger in
@@ -235,6 +237,7 @@ keeps-forgot attempt lines accounts resource n k le =
       number = k.number;
       kept = ap (with_account resource (without n)) k.kept ∙ map-changed attempt lines now resource (without n) regs k.distinct own other ∙ sym (ap (map (account_by now attempt)) (forgot-registered attempt resource n lines));
       opened = forgot-opened attempt resource n lines ∙ k.opened ∙ sym (ap is_begun (forgot-registered attempt resource n lines));
+      going = not-done attempt lines (Forgot attempt resource n) refl ∙ k.going;
       distinct = ap are_distinct (forgot-registered attempt resource n lines) ∙ k.distinct;
       known = λ r stranger. records r ∙ k.known r (sym (ap (has_name r) (forgot-registered attempt resource n lines)) ∙ stranger);
       numbered = λ r. ap (are_numbered 1) (records r) ∙ k.numbered r;
@@ -342,3 +345,8 @@ registered-on attempt id lines accounts r k new = by (is_opened lines attempt) r
         let says = says-on attempt lines (lines ++ Opened attempt id ∷ []) (lines ++ Opened attempt id ∷ [] ++ line ∷ []) (r ∷ []) (says-opened attempt id lines) (says-registered attempt r.resource r.phases (lines ++ Opened attempt id ∷ [])) in
         let kept = keeps-registered attempt lines (lines ++ Opened attempt id ∷ [] ++ line ∷ []) accounts r k new says begun in
         subst (λ (b : Bool). Keeps attempt (lines ++ unless b (Opened attempt id) ++ line ∷ []) (accounts ++ new_account r.resource r.phases ∷ [])) (sym opened) kept
+
+-- whether Done follows is told by whether Opened is there
+pub finishing : (attempt : ℕ) (lines : List LogLine) (accounts : List Account) (b : Bool) → Keeps attempt lines accounts → is_opened lines attempt ≡ b → cond (is_unfinished lines attempt) (Done attempt ∷ []) [] ≡ cond b (Done attempt ∷ []) []
+finishing attempt lines accounts true k opened = λ i. cond (opened i && not (k.going i)) (Done attempt ∷ []) []
+finishing attempt lines accounts false k opened = λ i. cond (opened i && not (is_done lines attempt)) (Done attempt ∷ []) []

@@ -1,5 +1,7 @@
 -- The last record of a resource, and the last of those that are left.
-use Rattle.std.proofs.Common.{◌≡◌, ◌∙◌, ℕ, zero, suc, ◌+◌, ◌-◌, ◌<◌, ◌==◌, List, [], ◌∷◌, ◌++◌, length, reverse, slice_get, Bool, true, false, not, cond, Option, Some, None, refl, sym, ap, arith, append-nil, eq-eqb, ne_eqb, eqb-true}
+use Rattle.std.proofs.Common.{◌≡◌, ◌∙◌, ℕ, zero, suc, ◌+◌, ◌-◌, ◌<◌, ◌==◌, List, [], ◌∷◌, ◌++◌, length, reverse, slice_get, Bool, true, false, not, cond, ◌||◌, Option, Some, None, refl, sym, ap, arith, append-nil, eq-eqb, ne_eqb, eqb-true}
+use Rattle.std.specs.List.{list_any}
+use Rattle.std.proofs.Math.Bool.{or-true}
 use Rattle.std.proofs.lemmas.Bool.{and_parts}
 use Rattle.std.proofs.lemmas.List.{reverse-reverse, reverse-append, length_push}
 use Rattle.std.proofs.lemmas.List.Elements.{filter-append}
@@ -22,6 +24,14 @@ last-push : (rs : List LogRecord) (w : LogRecord) → last_of (rs ++ w ∷ []) �
 last-push rs w =
     let back : length (rs ++ w ∷ []) - 1 ≡ length rs = omega (arith, length_push rs w) in
     ap (slice_get (rs ++ w ∷ [])) back ∙ get-push rs w
+
+-- a record of a list has the number of one
+pub among : (rs : List LogRecord) (i : ℕ) (r : LogRecord) → slice_get rs i ≡ Some r → list_any (λ (e : LogRecord). e.seq == r.seq) rs ≡ true
+among [] i r at = absurd cc
+among (w ∷ rs) zero r at =
+    let is : w ≡ r = cc in
+    ap (λ (b : Bool). b || list_any (λ (e : LogRecord). e.seq == r.seq) rs) (eq-eqb w.seq r.seq (ap (λ (x : LogRecord). x.seq) is))
+among (w ∷ rs) (suc i) r at = ap (λ (b : Bool). (w.seq == r.seq) || b) (among rs i r at) ∙ or-true (w.seq == r.seq)
 
 -- all that are left have numbers of those that were written
 below : (gone : ℕ → Bool) (k : ℕ) (ws : List LogRecord) (i : ℕ) (r : LogRecord) → are_numbered k ws ≡ true → slice_get (those gone ws) i ≡ Some r → r.seq < k + length ws

@@ -2,7 +2,7 @@ mod Names
 mod Books
 mod Walks
 mod Numbered
-mod Said
-mod Keeping
-mod Rooms
+pub mod Said
+pub mod Keeping
+pub mod Rooms
 mod Last

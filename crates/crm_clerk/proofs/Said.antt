@@ -8,7 +8,7 @@ use Rattle.std.proofs.lemmas.List.Elements.{filter_map-append, filter-append}
 use Rattle.qc_base.specs.declared.log_line.LogRecord.{LogRecord}
 use Rattle.qc_base.specs.declared.log_line.LogLine.{LogLine}
 use Rattle.qc_base.specs.declared.log_line.LogLine.TheVariants.{Opened, Registered, Written, Forgot}
-use Rattle.qc_base.specs.LogLines.{Entry, Registration, opened_by, registered_by, written_by, forgets_entry, is_opened, registrations, entries, is_forgotten, of_resource, unforgotten}
+use Rattle.qc_base.specs.LogLines.{Entry, Registration, opened_by, registered_by, written_by, forgets_entry, is_done_line, is_opened, is_done, registrations, entries, is_forgotten, of_resource, unforgotten}
 use Rattle.crm_clerk.specs.Clerk.{records_in}
 use Rattle.crm_clerk.proofs.Names.{bytes-same}
 use Rattle.crm_clerk.proofs.Numbered.{those, same-number}
@@ -56,31 +56,38 @@ pub record SaysMore (attempt : ℕ) (lines now : List LogLine) (more : List Regi
   pub registered : registrations now attempt ≡ registrations lines attempt ++ more
   pub records : (resource : List ℕ) → records_in now attempt resource ≡ records_in lines attempt resource
   pub named : (resource : List ℕ) (seq : ℕ) → is_named now attempt resource seq ≡ is_named lines attempt resource seq
+  pub done : is_done now attempt ≡ is_done lines attempt
 
 pub says-itself : (attempt : ℕ) (lines : List LogLine) → SaysMore attempt lines lines []
-says-itself attempt lines = record { registered = sym (append-nil (registrations lines attempt)); records = λ resource. refl; named = λ resource seq. refl }
+says-itself attempt lines = record { registered = sym (append-nil (registrations lines attempt)); records = λ resource. refl; named = λ resource seq. refl; done = refl }
 
--- a line that says neither of a record nor that one is forgotten
-says-line : (attempt : ℕ) (lines : List LogLine) (line : LogLine) → filter_map (written_by attempt) (line ∷ []) ≡ [] → ((resource : List ℕ) (seq : ℕ) → forgets_entry attempt resource seq line ≡ false)
+-- a line that doesn't end the attempt
+pub not-done : (attempt : ℕ) (lines : List LogLine) (line : LogLine) → is_done_line attempt line ≡ false → is_done (lines ++ line ∷ []) attempt ≡ is_done lines attempt
+not-done attempt lines line other =
+    list_any-append (is_done_line attempt) lines (line ∷ []) ∙ ap (λ (b : Bool). is_done lines attempt || (b || false)) other ∙ or-false (is_done lines attempt)
+
+-- a line that says neither of a record nor that one is forgotten, nor that the attempt is done
+says-line : (attempt : ℕ) (lines : List LogLine) (line : LogLine) → filter_map (written_by attempt) (line ∷ []) ≡ [] → ((resource : List ℕ) (seq : ℕ) → forgets_entry attempt resource seq line ≡ false) → is_done_line attempt line ≡ false
     → SaysMore attempt lines (lines ++ line ∷ []) (filter_map (registered_by attempt) (line ∷ []))
-says-line attempt lines line none not_forgot = record {
+says-line attempt lines line none not_forgot going = record {
   registered = filter_map-append (registered_by attempt) lines (line ∷ []);
   records = λ resource. ap (of_resource resource) (filter_map-append (written_by attempt) lines (line ∷ []) ∙ ap (λ (l : List Entry). entries lines attempt ++ l) none ∙ append-nil (entries lines attempt));
   named = λ resource seq.
       list_any-append (forgets_entry attempt resource seq) lines (line ∷ [])
       ∙ ap (λ (b : Bool). is_named lines attempt resource seq || (b || false)) (not_forgot resource seq)
       ∙ or-false (is_named lines attempt resource seq);
+  done = not-done attempt lines line going;
 }
 
 pub says-opened : (attempt id : ℕ) (lines : List LogLine) → SaysMore attempt lines (lines ++ Opened attempt id ∷ []) []
-says-opened attempt id lines = says-line attempt lines (Opened attempt id) refl (λ resource seq. refl)
+says-opened attempt id lines = says-line attempt lines (Opened attempt id) refl (λ resource seq. refl) refl
 
 pub says-registered : (attempt : ℕ) (resource : List ℕ) (phases : ℕ) (lines : List LogLine) → SaysMore attempt lines (lines ++ Registered attempt resource phases ∷ []) (record { resource = resource; phases = phases } ∷ [])
 says-registered attempt resource phases lines =
     let line : LogLine = Registered attempt resource phases in
     let one : Registration = record { resource = resource; phases = phases } in
     let now : filter_map (registered_by attempt) (line ∷ []) ≡ one ∷ [] = ap (λ (b : Bool). filter_map (λ (l : LogLine). cond b (Some one) None) (line ∷ [])) (same-number attempt) in
-    subst (λ (l : List Registration). SaysMore attempt lines (lines ++ line ∷ []) l) now (says-line attempt lines line refl (λ resource seq. refl))
+    subst (λ (l : List Registration). SaysMore attempt lines (lines ++ line ∷ []) l) now (says-line attempt lines line refl (λ resource seq. refl) refl)
 
 -- one after the other
 pub says-on : (attempt : ℕ) (lines mid now : List LogLine) (more : List Registration) → SaysMore attempt lines mid [] → SaysMore attempt mid now more → SaysMore attempt lines now more
@@ -88,6 +95,7 @@ says-on attempt lines mid now more a b = record {
   registered = b.registered ∙ ap (λ (l : List Registration). l ++ more) (a.registered ∙ append-nil (registrations lines attempt));
   records = λ resource. b.records resource ∙ a.records resource;
   named = λ resource seq. b.named resource seq ∙ a.named resource seq;
+  done = b.done ∙ a.done;
 }
 
 -- a record more

@@ -2,8 +2,8 @@
 use Rattle.std.specs.Prelude.{ℕ, ◌+◌, ◌-◌, List, [], ◌∷◌, ◌++◌, length, reverse, Bool, Option, Some, None, if◌then◌else◌}
 use Rattle.qc_base.specs.declared.log_line.LogRecord.{LogRecord}
 use Rattle.qc_base.specs.declared.log_line.LogLine.{LogLine}
-use Rattle.qc_base.specs.declared.log_line.LogLine.TheVariants.{Opened, Registered, Written, Forgot}
-use Rattle.qc_base.specs.LogLines.{is_opened, entries, is_forgotten, of_resource}
+use Rattle.qc_base.specs.declared.log_line.LogLine.TheVariants.{Opened, Registered, Written, Forgot, Done}
+use Rattle.qc_base.specs.LogLines.{is_opened, is_unfinished, entries, is_forgotten, of_resource}
 
 pub record ClerkView : Type 0 where
   pub attempt : ℕ
@@ -61,6 +61,10 @@ forgot_lines c resource None = []
 -- that the last record is forgotten, where it isn't yet
 abbrev pub forgetting_lines : ClerkView → List ℕ → List LogLine
 forgetting_lines c resource = forgot_lines c resource (last_kept c.lines c.attempt resource)
+
+-- that the attempt is done, where it is opened and isn't done
+abbrev pub finishing_lines : ClerkView → List LogLine
+finishing_lines c = if is_unfinished c.lines c.attempt then Done c.attempt ∷ [] else []
 
 -- the clerk with these lines more, and so much less room
 abbrev pub with_lines : ℕ → List LogLine → ClerkView → ClerkView

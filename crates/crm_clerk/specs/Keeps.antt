@@ -4,7 +4,7 @@ use Rattle.std.specs.List.{list_any}
 use Rattle.std.specs.Str.{bytes_eq}
 use Rattle.qc_base.specs.declared.log_line.LogRecord.{LogRecord}
 use Rattle.qc_base.specs.declared.log_line.LogLine.{LogLine}
-use Rattle.qc_base.specs.LogLines.{Registration, is_opened, is_registered, registrations, forgets_entry, unforgotten}
+use Rattle.qc_base.specs.LogLines.{Registration, is_opened, is_done, is_registered, registrations, forgets_entry, unforgotten}
 use Rattle.qc_base.specs.Spelling.{is_attempt}
 use Rattle.crm_clerk.specs.Accounts.{Account}
 use Rattle.crm_clerk.specs.Clerk.{records_in}
@@ -41,6 +41,7 @@ pub record Keeps (attempt : ℕ) (lines : List LogLine) (accounts : List Account
   pub number : is_attempt attempt ≡ true
   pub kept : accounts ≡ accounts_by lines attempt
   pub opened : is_opened lines attempt ≡ is_begun (registrations lines attempt)
+  pub going : is_done lines attempt ≡ false
   pub distinct : are_distinct (registrations lines attempt) ≡ true
   pub known : (resource : List ℕ) → is_registered lines attempt resource ≡ false → records_in lines attempt resource ≡ []
   pub numbered : (resource : List ℕ) → are_numbered 1 (records_in lines attempt resource) ≡ true

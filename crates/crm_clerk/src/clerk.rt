@@ -1,5 +1,6 @@
 // The clerk of an attempt.
-ghost use Rattle.std.specs.Prelude.{◌≡◌, ◌≤◌, ◌==◌, List, [], ◌∷◌, ◌++◌, map, length, true, IfOk, OnOk};
+ghost use Rattle.std.specs.Prelude.{◌≡◌, ◌≤◌, ◌==◌, List, [], ◌∷◌, ◌++◌, map, length, true, option_map};
+ghost use Rattle.std.specs.Prelude.{IfOk, IfSome, OnOk};
 ghost use Rattle.std.specs.List.{list_any};
 ghost use Rattle.qc_base.specs.LogLines.{registrations, unforgotten};
 ghost use Rattle.qc_base.specs.Spelling.{is_attempt};
@@ -9,7 +10,7 @@ ghost use Rattle.crm_log.specs.Lines.{staged_line};
 ghost use Rattle.crm_log.specs.Log.{IsLogOf, LinesWait};
 ghost use Rattle.crm_log.specs.Parts.{are_phases};
 ghost use Rattle.crm_clerk.specs.Clerk.{new_clerk, registering_lines, writing_lines, forgetting_lines, forgot_line};
-ghost use Rattle.crm_clerk.specs.Clerk.{unless};
+ghost use Rattle.crm_clerk.specs.Clerk.{unless, last_kept, finishing_lines};
 ghost use Rattle.crm_clerk.specs.Staging.{HasRoomFor, TakesRoom, staged_lines};
 ghost use Rattle.crm_clerk.specs.Limits.{numbers_fit};
 ghost use Rattle.crm_clerk.specs.Calls.{Stages, HasStaged, registers, writes, forgets_last};
@@ -226,6 +227,23 @@ impl Clerk {
         log.force(site)
     }
 
+    /// Ends the attempt: stages Done where the attempt is opened, and nothing otherwise. The clerk is gone then, since
+    /// no line of the attempt may follow. The line is one of the log's once the log was forced (`CrmLog::force`). It
+    /// needs room for it in the log, whose end was reached.
+    pub fn finish(self, log: &mut CrmLog)
+        requires { HasRoomFor (length (finishing_lines self)) log.old }
+        ensures log { log.new ≡ staged_lines log.old (finishing_lines self) }
+        ensures room { TakesRoom (length (finishing_lines self)) log.old log.new }
+        ensures waits { (waiting : List LogLine) → LinesWait log.old waiting
+            → LinesWait log.new (waiting ++ finishing_lines self) }
+    {
+        if self.book.registered().is_empty() {
+            return;
+        }
+        let mut last = Lines::none();
+        stage(log, &mut last, &LogLine::Done(self.attempt));
+    }
+
     /// How many more registrations and records there is room for.
     pub fn room(&self) -> usize
         ensures { result ≡ self.now.room }
@@ -239,6 +257,24 @@ impl Clerk {
         ensures { result.now ≡ unforgotten self.now.lines self.now.attempt resource.now }
     {
         self.book.records(resource)
+    }
+
+    /// The last record of a resource, where the attempt has written one and hasn't forgotten it. It may be forgotten.
+    pub fn last(&self, resource: &Name) -> Option<&LogRecord>
+        ensures last { option_map (λ r. r.now) result ≡ last_kept self.now.lines self.now.attempt resource.now }
+        ensures kept { IfSome result (λ last. list_any (λ r. r.seq == last.now.seq)
+            (unforgotten self.now.lines self.now.attempt resource.now) ≡ true) }
+    {
+        let Some(written) = self.book.written(resource) else {
+            return None;
+        };
+        let Some(last) = self.book.records(resource).last() else {
+            return None;
+        };
+        if written != last.seq {
+            return None;
+        }
+        Some(last)
     }
 
     /// The resources that the attempt has registered, with their phases, in order of registration.

@@ -10,7 +10,8 @@
 //! 2. [`Clerk::register`] registers the compensator of a resource; the first one of an attempt writes Opened.
 //! 3. [`Clerk::write_record`] writes a record, and [`Clerk::forget_last`] and [`Clerk::forget`] forget one.
 //! 4. [`Clerk::force_log`] makes the lines that wait one group of the log.
-//! 5. [`Clerk::records`] and [`Clerk::registered`] tell what the lines say.
+//! 5. [`Clerk::records`], [`Clerk::last`] and [`Clerk::registered`] tell what the lines say.
+//! 6. [`Clerk::finish`] writes Done where Opened was written, and takes the clerk: no call follows.
 //!
 //! After `begin` no call takes memory: each has the condition that there is room in clerk and log. An error changes
 //! nothing.

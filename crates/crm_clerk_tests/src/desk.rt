@@ -95,6 +95,22 @@ impl<S: Site + Drop> Desk<S> {
         true
     }
 
+    /// Ends the attempt, and makes all lines that wait one group of the log. Hands the site back.
+    pub fn finish(self) -> Result<S, Failed>
+        requires some { 1 ≤ self.calls }
+        requires ready { IsReady S.Site self.site self.log self.clerk self.calls }
+    {
+        let Desk {
+            mut site,
+            mut log,
+            clerk,
+            calls: _,
+        } = self;
+        clerk.finish(&mut log);
+        log.force(&mut site)?;
+        Ok(site)
+    }
+
     /// Makes all lines that wait one group of the log.
     pub fn force(&mut self) -> Result<(), Failed>
         requires ready { IsReady S.Site self.old.site self.old.log self.old.clerk self.old.calls }

@@ -190,3 +190,22 @@ fn room_past_the_numbers_of_records_is_want_of_memory(rt: HostRuntime) -> Result
     assert_eq!(rt; Clerk::begin(alloc, 1, 7, 3)?.room(), 3);
     Ok(())
 }
+
+#[test]
+fn done_ends_an_attempt_that_is_opened(rt: HostRuntime) -> Result<(), Fail> {
+    let alloc = rt.alloc();
+    let till = name(b"till")?;
+    let lines = [
+        LogLine::Opened(1, 7),
+        LogLine::Registered(1, till, 6),
+        LogLine::Done(1),
+    ];
+    let mut desk = Desk::open(alloc, made_site(alloc)?)?;
+    assert_eq!(rt; desk.register(&till, 6), Ok(()));
+    let mut site = desk.finish()?;
+    assert_eq!(rt; lines_of(alloc, &mut site)?.as_slice(), lines.as_slice());
+    let desk = Desk::open(alloc, made_site(alloc)?)?;
+    let mut site = desk.finish()?;
+    assert!(rt; lines_of(alloc, &mut site)?.is_empty());
+    Ok(())
+}

@@ -9,6 +9,10 @@ use std::test::Fail;
 const THREE_CALLS: &str =
     r#"{"at":0,"do":"send","app":"Orders","component":"Plain","calls":[["Take","bolt",4],["Take","bolt",7],["Doom"]]}"#;
 
+const FINALS: &str = r#"{"at":0,"do":"table","table":"finals"}"#;
+
+const LOST: &str = r#"{"at":0,"do":"table","table":"lost"}"#;
+
 const LISTED_3: &str =
     "queues Orders 1/0/0, 2/0/0, 3/0/0; Orders_0; Orders_1; Orders_2; Orders_3; Orders_4; Orders_DeadQueue; consumed 0";
 
@@ -193,21 +197,13 @@ const FORCED_ALONE: Rows = &[
     (PLAY, "played 1 attempt 1 normal failed forced: -"),
 ];
 
-// Without messages an application that is off is told first. Moves aren't built.
+// Without messages an application that is off is told first.
 const OFF_AT_ONCE: Rows = &[
     (SWITCH_OFF, "switched Orders off"),
     (PLAY, "refused 19 SwitchedOff"),
     (
         r#"{"at":0,"do":"table","table":"none"}"#,
         "refused 17 UnknownTable",
-    ),
-    (
-        r#"{"at":0,"do":"move","from":"Orders","to":"Orders_9","batch":1}"#,
-        "refused 3 NotBuilt",
-    ),
-    (
-        r#"{"at":0,"do":"move","from":"Orders","to":"Orders","batch":0}"#,
-        "refused 3 NotBuilt",
     ),
 ];
 
@@ -352,56 +348,134 @@ const MOMENTS: [u64; 18] = [
     0, 0, 0, 60, 120, 180, 300, 420, 540, 780, 1020, 1260, 1740, 2220, 2700, 3660, 4620, 5580,
 ];
 
-// A message that fails at each of these moments, and where it stands then.
-fn all_failures(
+// Plays a message at each of these moments from this one on, where it fails, by attempts from this number on.
+fn put_failures(
     alloc: Global,
-    send: &str,
-    listed: &str,
-    next: &str,
-) -> Result<(Vec<u8>, Vec<u8>), Fail> {
-    let mut lines = Vec::new(alloc);
-    let mut replies = Vec::new(alloc);
-    put_line(&mut lines, send)?;
-    put_line(&mut replies, "sent 1")?;
-    let mut attempt = 0u64;
-    for at in MOMENTS {
-        attempt = attempt.saturating_add(1);
+    from: u64,
+    id: u64,
+    attempt: u64,
+    lines: &mut Vec<u8>,
+    replies: &mut Vec<u8>,
+) -> Result<(), Fail> {
+    let mut attempt = attempt;
+    for after in MOMENTS {
+        let at = from.saturating_add(after);
         let line = format!(in alloc;
             "{{\"at\":{at},\"do\":\"play\",\"player\":1,\"app\":\"Orders\"}}"
         )?;
-        let reply = format!(in alloc; "played 1 attempt {attempt} normal failed call 1 step 1: -")?;
-        put_line(&mut lines, line.as_str())?;
-        put_line(&mut replies, reply.as_str())?;
+        let reply = format!(in alloc;
+            "played {id} attempt {attempt} normal failed call 1 step 1: -"
+        )?;
+        put_line(lines, line.as_str())?;
+        put_line(replies, reply.as_str())?;
+        attempt = attempt.saturating_add(1);
     }
-    put_line(&mut lines, LIST)?;
-    put_line(&mut replies, listed)?;
-    put_line(&mut lines, PLAY)?;
-    put_line(&mut replies, next)?;
-    Ok((lines, replies))
+    Ok(())
 }
+
+fn put_rows(rows: Rows, lines: &mut Vec<u8>, replies: &mut Vec<u8>) -> Result<(), Fail> {
+    for (line, reply) in rows {
+        put_line(lines, line)?;
+        put_line(replies, reply)?;
+    }
+    Ok(())
+}
+
+// Its component names an exception class, which plays its own script and then the recorded calls.
+const LAST: Rows = &[
+    (
+        LIST,
+        "queues Orders; Orders_0; Orders_1; Orders_2; Orders_3; Orders_4 1/3/5580; Orders_DeadQueue; consumed 0",
+    ),
+    (
+        r#"{"at":5580,"do":"play","player":1,"app":"Orders"}"#,
+        "played 1 attempt 19 final commit: -",
+    ),
+    (FINALS, "table finals \"count\" 1; total 1"),
+    (LOST, "table lost \"bolt\" 11; total 11"),
+    (LIST, CONSUMED_1),
+];
+
+// The same step by step: the script of the exception class is call 0.
+const LAST_BY_STEPS: Rows = &[
+    (TAKE_1, "taken 1 attempt 19 final calls 2"),
+    (WORK, "worked call 0 left 1"),
+    (WORK, "worked call 1 left 0"),
+    (FINALS, "table finals; total 0"),
+    (END, "committed attempt 19: -"),
+    (PHASE, "finished attempt 19 commit: -"),
+    (FINALS, "table finals \"count\" 1; total 1"),
+    (STOCK, OPENED),
+];
+
+// A component without an exception class.
+const DEAD: Rows = &[
+    (
+        LIST,
+        "queues Orders; Orders_0; Orders_1; Orders_2; Orders_3; Orders_4; Orders_DeadQueue 1; consumed 0",
+    ),
+    (PLAY, NOTHING_DUE),
+];
 
 #[test]
 fn failures_lead_through_the_queues(rt: HostRuntime) -> Result<(), Fail> {
     let alloc = rt.alloc();
     let table = [
-        // its component names an exception class, and the final attempt isn't built
-        (
-            PLACE_11,
-            "queues Orders; Orders_0; Orders_1; Orders_2; Orders_3; Orders_4 1/3/5580; Orders_DeadQueue; consumed 0",
-            "refused 3 NotBuilt",
-        ),
-        (
-            TAKE_11_BOLTS,
-            "queues Orders; Orders_0; Orders_1; Orders_2; Orders_3; Orders_4; Orders_DeadQueue 1; consumed 0",
-            NOTHING_DUE,
-        ),
+        (PLACE_11, LAST),
+        (PLACE_11, LAST_BY_STEPS),
+        (TAKE_11_BOLTS, DEAD),
     ];
-    for (send, listed, next) in table {
-        let (lines, replies) = all_failures(alloc, send, listed, next)?;
+    for (send, rows) in table {
+        let mut lines = Vec::new(alloc);
+        let mut replies = Vec::new(alloc);
+        put_line(&mut lines, send)?;
+        put_line(&mut replies, "sent 1")?;
+        put_failures(alloc, 0, 1, 1, &mut lines, &mut replies)?;
+        put_rows(rows, &mut lines, &mut replies)?;
         let mut site = plain_site(alloc)?;
         let (status, sink) = drill(alloc, &mut site, &[lines.as_slice()])?;
         assert_eq!(rt; status, Status::Done);
         assert_eq!(rt; sink.contents(), replies.as_slice());
     }
+    Ok(())
+}
+
+const PLACE_THE_MOST: &str =
+    r#"{"at":0,"do":"send","app":"Orders","component":"Order","calls":[["Place","bolt",1000000000000000]]}"#;
+
+// The amount that is lost has no room for a second message, whose last attempt fails: then it is dead, and what its
+// call 0 changed is gone.
+const NO_LAST: Rows = &[
+    (PLAY, "played 2 attempt 38 final failed call 1 step 1: -"),
+    (FINALS, "table finals \"count\" 1; total 1"),
+    (
+        LOST,
+        "table lost \"bolt\" 1000000000000000; total 1000000000000000",
+    ),
+    (
+        LIST,
+        "queues Orders; Orders_0; Orders_1; Orders_2; Orders_3; Orders_4; Orders_DeadQueue 2; consumed 1",
+    ),
+];
+
+#[test]
+fn a_last_attempt_that_fails_leaves_its_message_dead(rt: HostRuntime) -> Result<(), Fail> {
+    let alloc = rt.alloc();
+    let mut lines = Vec::new(alloc);
+    let mut replies = Vec::new(alloc);
+    put_line(&mut lines, PLACE_THE_MOST)?;
+    put_line(&mut replies, "sent 1")?;
+    put_failures(alloc, 0, 1, 1, &mut lines, &mut replies)?;
+    let between: Rows = &[
+        (PLAY, "played 1 attempt 19 final commit: -"),
+        (PLACE_THE_MOST, "sent 2"),
+    ];
+    put_rows(between, &mut lines, &mut replies)?;
+    put_failures(alloc, 5_580, 2, 20, &mut lines, &mut replies)?;
+    put_rows(NO_LAST, &mut lines, &mut replies)?;
+    let mut site = plain_site(alloc)?;
+    let (status, sink) = drill(alloc, &mut site, &[lines.as_slice()])?;
+    assert_eq!(rt; status, Status::Done);
+    assert_eq!(rt; sink.contents(), replies.as_slice());
     Ok(())
 }

@@ -13,9 +13,13 @@ mod attempts;
 #[cfg(test)]
 mod changed;
 #[cfg(test)]
+mod fronts;
+#[cfg(test)]
 mod interleaved;
 #[cfg(test)]
 mod limited;
+#[cfg(test)]
+mod moves;
 #[cfg(test)]
 mod rows;
 #[cfg(test)]

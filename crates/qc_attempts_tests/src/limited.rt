@@ -14,6 +14,18 @@ use std::test::Fail;
 const TAKE_1_NUT: &str =
     r#"{"at":0,"do":"send","app":"Orders","component":"Plain","calls":[["Take","nut",1]]}"#;
 
+const MOVE_BY_1: &str = r#"{"at":0,"do":"move","from":"Orders","to":"Orders_DeadQueue","batch":1}"#;
+
+const MOVE_BY_3: &str = r#"{"at":0,"do":"move","from":"Orders","to":"Orders_DeadQueue","batch":3}"#;
+
+const FIVE: &[&str] = &[
+    TAKE_4_BOLTS,
+    TAKE_4_BOLTS,
+    TAKE_4_BOLTS,
+    TAKE_4_BOLTS,
+    TAKE_4_BOLTS,
+];
+
 // A reply, or that the journal is full: its length is so many bytes more than before.
 #[derive(Clone, Copy)]
 enum Told {
@@ -150,6 +162,54 @@ const OTHERS: [Case; 6] = [
     },
 ];
 
+// A move takes 28 bytes for each batch and 8 for each message, of all batches together, beside what is set aside.
+const MOVES: [Case; 6] = [
+    Case {
+        before: FIVE,
+        more: 179,
+        live: 9,
+        rows: &[(MOVE_BY_1, Told::Full(0)), (TAKE_1, TAKEN_1)],
+    },
+    Case {
+        before: FIVE,
+        more: 180,
+        live: 9,
+        rows: &[
+            (MOVE_BY_1, Told::Is("moved 5")),
+            (MOVE_BY_1, Told::Is("moved 0")),
+        ],
+    },
+    Case {
+        before: FIVE,
+        more: 95,
+        live: 9,
+        rows: &[(MOVE_BY_3, Told::Full(0))],
+    },
+    Case {
+        before: FIVE,
+        more: 96,
+        live: 9,
+        rows: &[(MOVE_BY_3, Told::Is("moved 5"))],
+    },
+    Case {
+        before: FIVE,
+        more: 122,
+        live: 9,
+        rows: &[(TAKE_1, TAKEN_1), (MOVE_BY_3, Told::Full(0))],
+    },
+    Case {
+        before: FIVE,
+        more: 123,
+        live: 9,
+        rows: &[
+            (TAKE_1, TAKEN_1),
+            (MOVE_BY_3, Told::Is("moved 4")),
+            (WORK, WORKED),
+            (END, COMMITTED),
+        ],
+    },
+];
+
 // The reply to a line. After one the hub takes further lines.
 fn reply_to<S: Site>(
     alloc: Global,
@@ -213,7 +273,7 @@ fn expected(
 #[test]
 fn what_has_no_room_is_refused(rt: HostRuntime) -> Result<(), Fail> {
     let alloc = rt.alloc();
-    for cases in [&ATTEMPTS[..], &OTHERS[..]] {
+    for cases in [&ATTEMPTS[..], &OTHERS[..], &MOVES[..]] {
         for case in cases {
             let mut site = site_after(alloc, case.before)?;
             let length = site.len(FILE)?;

@@ -58,7 +58,7 @@ const LINES: &[(&str, &str)] = &[
     ),
     (
         r#"{"at":0,"do":"move","from":"Orders","to":"Orders","batch":1}"#,
-        "refused 3 NotBuilt",
+        "moved 0",
     ),
     (
         r#"{"at":7,"do":"open","client":16,"app":"Orders","component":"Order"}"#,

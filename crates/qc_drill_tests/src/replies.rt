@@ -21,7 +21,7 @@ fn lines_have_their_replies(rt: HostRuntime) -> Result<(), Fail> {
             &[NO_LINE, NO_LINE, NO_PLAYER, ONE_MORE_MEMBER],
         ),
         (&[TAKE, LIST], &[NOTHING_DUE, LISTED_NONE]),
-        (&[MOVE, LIST], &[NOT_BUILT, LISTED_NONE]),
+        (&[MOVE, LIST], &[MOVED_NONE, LISTED_NONE]),
         (&[SEND_AT_0_AND_5, LIST], &[SENT_1, LISTED_1_AT_5]),
         (&[SEND_MOST, LIST], &[SENT_1, LISTED_1]),
         (&[SEND_TOO_MUCH, LIST], &[BAD_AMOUNT, LISTED_NONE]),

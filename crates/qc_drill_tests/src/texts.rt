@@ -87,7 +87,7 @@ pub const SENT_1: &[u8] = b"sent 1\n";
 
 pub const SENT_2: &[u8] = b"sent 2\n";
 
-pub const NOT_BUILT: &[u8] = b"refused 3 NotBuilt\n";
+pub const MOVED_NONE: &[u8] = b"moved 0\n";
 
 pub const NOTHING_DUE: &[u8] = b"refused 20 NothingDue earliest none blocked 0\n";
 

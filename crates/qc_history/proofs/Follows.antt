@@ -1,6 +1,6 @@
 -- Which facts may follow, by what is kept of a history, and what is kept behind them.
 use Rattle.std.proofs.Common.{◌≡◌, ◌∙◌, ◌≢◌, ℕ, ◌+◌, ◌<◌, leb, eqb, ◌==◌, List, [], ◌∷◌, ◌++◌, Bool, true, false, ◌&&◌, not, length, map, refl, sym, ap, subst, arith, Option, Some, None, is_some, unwrap_or, ne_eqb, eqb-true, if◌then◌else◌, Ok, Err}
-use Rattle.std.specs.List.{list_any}
+use Rattle.std.specs.List.{list_all, list_any}
 use Rattle.std.specs.Option.{option_map_or}
 use Rattle.std.specs.Prelude.{is_none, option_and_then}
 use Rattle.std.proofs.lemmas.Bool.{and_parts, and_from, false≢true}
@@ -22,7 +22,7 @@ use Rattle.qc_catalogue.specs.Catalogue.{catalogue_of}
 use Rattle.qc_catalogue.specs.Lookup.{app_named}
 use Rattle.qc_listener.specs.Choice.{is_due, kind_at}
 use Rattle.qc_machine.specs.Attempts.{greatest}
-use Rattle.qc_machine.specs.History.{History, after_fact, attempt_of, bool_eq, by_text, goes_on, if_ok, is_commit, is_later, is_new_attempt, kind_eq, kind_of, may_end_on, names_exception, no_catalogue, outcome_on, plays_inside, with_fact}
+use Rattle.qc_machine.specs.History.{History, after_fact, are_distinct, attempt_of, bool_eq, by_text, goes_on, if_ok, is_commit, is_later, is_movable, is_new_attempt, kind_eq, kind_of, may_end_on, names_exception, no_catalogue, outcome_on, plays_inside, with_fact}
 use Rattle.qc_recorder.specs.Fits.{recording_fits}
 use Rattle.qc_rows.specs.Places.{TablesView}
 use Rattle.qc_rows.specs.Tables.{opened_tables}
@@ -202,8 +202,27 @@ module _ (old : HistoryView) (numbers : List ℕ) where
 
   -- a move
 
-  pub moved-refused : (app : List ℕ) (queue at : ℕ) (ids : List ℕ) → Refuses (Moved app queue at ids) old numbers old numbers
-  moved-refused app queue at ids = refuses (Moved app queue at ids) (λ h read. refl)
+  module _ (app : List ℕ) (queue at : ℕ) (ids : List ℕ) where
+    abbrev all_movable : Bool
+    all_movable = list_all (is_movable app old.store.messages) ids
+
+    moved-goes : (h : History) → IsHistoryOf old h → goes_on by_text h (Moved app queue at ids) ≡ (later_at at && (are_distinct ids && all_movable))
+    moved-goes h is = λ i. (later-is h at is) i && (are_distinct ids && list_all (is_movable app ((sym is.messages) i)) ids)
+
+    pub early-moved : later_at at ≡ false → Refuses (Moved app queue at ids) old numbers old numbers
+    early-moved e = refuses (Moved app queue at ids) (λ h read. moved-goes h read.is ∙ false-and (later_at at) _ e)
+
+    pub doubly-moved : are_distinct ids ≡ false → Refuses (Moved app queue at ids) old numbers old numbers
+    doubly-moved e = refuses (Moved app queue at ids) (λ h read. moved-goes h read.is ∙ and-false (later_at at) _ (false-and (are_distinct ids) _ e))
+
+    pub wrongly-moved : all_movable ≡ false → Refuses (Moved app queue at ids) old numbers old numbers
+    wrongly-moved e = refuses (Moved app queue at ids) (λ h read. moved-goes h read.is ∙ and-false (later_at at) _ (and-false (are_distinct ids) _ e))
+
+    pub moved-taken : (new : HistoryView) → AddsFact (Moved app queue at ids) Always old new → later_at at ≡ true → are_distinct ids ≡ true → all_movable ≡ true → old.facts < 4611686018427387904
+        → Takes (Moved app queue at ids) old numbers new numbers
+    moved-taken new adds later distinct movable few =
+        takes-adding (Moved app queue at ids) (Moved app queue at ids) Always old new numbers (aside-none old) adds
+        (λ h read. (tt, moved-goes h read.is ∙ and_from (later_at at) _ later (and_from (are_distinct ids) _ distinct movable))) (λ h read. refl) (λ h is. is ∙ sym (numbers-same h (Moved app queue at ids) refl)) few
 
   -- the end of an attempt, with its kind where it was committed
 

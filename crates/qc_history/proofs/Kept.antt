@@ -1,21 +1,25 @@
 -- What holds of messages and their rows, whatever is done with them.
-use Rattle.std.proofs.Common.{◌≡◌, ◌∙◌, ℕ, ◌+◌, ◌≤◌, ◌==◌, eqb, ltb, eqb-true, List, [], ◌∷◌, ◌++◌, Bool, true, false, length, find, get_or, All, refl, sym, subst, arith, Some, None, if◌then◌else◌}
+use Rattle.std.proofs.Common.{◌≡◌, ◌∙◌, ℕ, ◌+◌, ◌≤◌, ◌==◌, eqb, ltb, eqb-true, List, [], ◌∷◌, ◌++◌, Bool, true, false, length, find, get_or, All, refl, sym, ap, subst, arith, not, Option, Some, None, if◌then◌else◌}
 use Rattle.std.proofs.lemmas.Bool.{ne_eqb, false≢true}
 use Rattle.std.proofs.lemmas.List.{length-map, length_push}
 use Rattle.std.proofs.lemmas.List.Elements.{All-filter, All-head, All-map, All-push, All-tail, All-weaker, filter_passes}
 use Rattle.std.proofs.lemmas.Option.{none-some, same_Some}
+use Rattle.std.specs.List.{list_any}
+use Rattle.std.specs.Option.{option_map_or}
 use Rattle.std.specs.Str.{bytes_eq}
 use Rattle.qc_base.specs.declared.fact.Place.{Place}
 use Rattle.qc_base.specs.declared.fact.Place.TheVariants.{Queue, Dead, Consumed}
 use Rattle.qc_base.specs.declared.message.Message.{Message}
 use Rattle.qc_base.specs.declared.recording.Recording.{Recording}
-use Rattle.qc_base.specs.Messages.{after_consumed, after_failed, after_sent, at_message, delay, is_consumed, message_of, next_place, of_app}
+use Rattle.qc_base.specs.Messages.{after_consumed, after_failed, after_moved, after_sent, at_message, delay, is_consumed, message_of, moved_place, next_place, of_app}
 use Rattle.qc_base.specs.Moments.{due_at}
 use Rattle.qc_catalogue.specs.declared.catalogue.Catalogue.{Catalogue}
 use Rattle.qc_listener.specs.Choice.{AreKept, IsKept}
 use Rattle.qc_listener.specs.Index.{MessageRows, entry_of, rows_for, with_entry, without}
 use Rattle.qc_listener.proofs.Kept.{none_removed, others_removed, others_set}
-use Rattle.qc_store.specs.Due.{is_queued}
+use Rattle.qc_machine.proofs.Moved.{each-id, moved-unspent, moves}
+use Rattle.qc_store.specs.Due.{is_queued, queued_messages}
+use Rattle.qc_store.specs.Live.{are_live, is_live}
 use Rattle.qc_history.specs.View.{IsSound}
 
 -- what holds of each message holds of the one that is found
@@ -63,9 +67,9 @@ module _ (id : ℕ) (to : Message → Place) (ms : List Message) where
       step m true e p = p
       step m false e p = p
 
--- the rows of a message that stands in the queues are kept
+-- the rows of a message that isn't consumed are kept
 abbrev pub KeptIn : Catalogue → List MessageRows → Message → Type 0
-KeptIn c rows m = is_queued m.place ≡ true → IsKept c rows m
+KeptIn c rows m = is_consumed m.place ≡ false → IsKept c rows m
 
 -- those of a consumed one aren't
 abbrev pub GoneFrom : List MessageRows → Message → Type 0
@@ -85,10 +89,16 @@ still-consumed (Queue queue tries due) final_class at q = by (ltb tries 2) (eqb 
 still-consumed Dead final_class at q = q
 still-consumed (Consumed attempt) final_class at q = q
 
-still-queued : (place : Place) (final_class : Bool) (at : ℕ) → is_queued (next_place place final_class at) ≡ true → is_queued place ≡ true
-still-queued (Queue queue tries due) final_class at q = refl
-still-queued Dead final_class at q = q
-still-queued (Consumed attempt) final_class at q = q
+still-live : (place : Place) (final_class : Bool) (at : ℕ) → is_consumed (next_place place final_class at) ≡ false → is_consumed place ≡ false
+still-live (Queue queue tries due) final_class at q = refl
+still-live Dead final_class at q = refl
+still-live (Consumed attempt) final_class at q = q
+
+-- what stands in a queue isn't consumed
+pub queued-live : (place : Place) → is_queued place ≡ true → is_consumed place ≡ false
+queued-live (Queue queue tries due) q = refl
+queued-live Dead q = refl
+queued-live (Consumed attempt) q = absurd (false≢true q)
 
 some-facts : (ms : List Message) (more : ℕ) → 1 ≤ more → more ≡ 0 → ms ≡ []
 some-facts ms more some none = absurd (omega (arith, some, none))
@@ -107,7 +117,7 @@ module _ (c : Catalogue) (ms : List Message) (rows : List MessageRows) (facts mo
       }
     where
       step : (m : Message) (b : Bool) → (m.id == id) ≡ b → KeptIn c rows m → KeptIn c rows (placed b (λ (m : Message). next_place m.place m.final_class at) m)
-      step m true e p = λ q. p (still-queued m.place m.final_class at q)
+      step m true e p = λ q. p (still-live m.place m.final_class at q)
       step m false e p = p
 
       leaves : (m : Message) (b : Bool) → (m.id == id) ≡ b → GoneFrom rows m → GoneFrom rows (placed b (λ (m : Message). next_place m.place m.final_class at) m)
@@ -127,7 +137,7 @@ module _ (c : Catalogue) (ms : List Message) (rows : List MessageRows) (facts mo
       }
     where
       step : (m : Message) (b : Bool) → (m.id == id) ≡ b → KeptIn c rows m → KeptIn c (without id rows) (placed b (λ (m : Message). Consumed attempt) m)
-      step m true e p = λ q. absurd (false≢true q)
+      step m true e p = λ q. absurd (false≢true (sym q))
       step m false e p = λ q. others_removed id m.id rows e ∙ p q
 
       leaves : (m : Message) (b : Bool) → (m.id == id) ≡ b → GoneFrom rows m → GoneFrom (without id rows) (placed b (λ (m : Message). Consumed attempt) m)
@@ -148,6 +158,59 @@ module _ (c : Catalogue) (ms : List Message) (rows : List MessageRows) (facts mo
         gone = All-push (GoneFrom rows) ms m sound.gone (λ q. absurd (false≢true q));
         none = some-facts (after_sent id r final_class at ms) more some;
       }
+
+  -- messages are moved that aren't consumed: their rows were kept, and still are
+  module _ (ids : List ℕ) (queue at : ℕ) (live : are_live ids ms ≡ true) where
+    moved-long : length (after_moved ids queue at ms) ≡ length ms
+    moved-long = length-map ms (moves ids queue at)
+
+    moved-all : (P Q : Message → Type 0) → ((m : Message) (b : Bool) → list_any (λ id. id == m.id) ids ≡ b → P m → Q (if b then record m { place = moved_place queue at } else m))
+        → All P ms → All Q (after_moved ids queue at ms)
+    moved-all P Q step all = All-map Q (moves ids queue at) ms (All-weaker P (λ (m : Message). Q (moves ids queue at m)) (λ m p. step m (list_any (λ id. id == m.id) ids) refl p) ms all)
+
+    -- what has the id of a message that isn't consumed isn't so either: the rows of that id are kept
+    alike-live : (m : Message) → is_live m.id ms ≡ true → GoneFrom rows m → is_consumed m.place ≡ false
+    alike-live m is gone = by (message_of m.id ms) refl is
+      where
+        judge : (n : Message) → message_of m.id ms ≡ Some n → (b : Bool) → is_consumed n.place ≡ b → not b ≡ true → (t : Bool) → is_consumed m.place ≡ t → t ≡ false
+        judge n found true spent e t is = absurd (false≢true e)
+        judge n found false spent e false is = refl
+        judge n found false spent e true is =
+            let same : n.id ≡ m.id = eqb-true n.id m.id (found-passes (λ (x : Message). x.id == m.id) ms n found) in
+            let kept : IsKept c rows n = found-holds (KeptIn c rows) (λ (x : Message). x.id == m.id) ms n sound.kept found spent in
+            absurd (none-some (rows_for c n.id n.recording) (sym (gone is) ∙ sym (ap (λ id. entry_of id rows) same) ∙ kept))
+
+        by : (o : Option Message) → message_of m.id ms ≡ o → option_map_or (λ (x : Message). not (is_consumed x.place)) o false ≡ true → is_consumed m.place ≡ false
+        by None found e = absurd (false≢true e)
+        by (Some n) found e = judge n found (is_consumed n.place) refl e (is_consumed m.place) refl
+
+    abbrev Here : Message → Type 0
+    Here m = KeptIn c rows m × GoneFrom rows m
+
+    pub sound-moved : IsSound c (after_moved ids queue at ms) rows more
+    sound-moved = record {
+      numbered = moved-all (λ (m : Message). m.id ≤ length ms) (λ (m : Message). m.id ≤ length (after_moved ids queue at ms)) numbers sound.numbered;
+      short = moved-all (λ (m : Message). length m.recording.calls ≤ 64) (λ (m : Message). length m.recording.calls ≤ 64) calls sound.short;
+      kept = moved-all Here (KeptIn c rows) stays (λ k d lt. (sound.kept k d lt, sound.gone k d lt));
+      gone = moved-all (GoneFrom rows) (GoneFrom rows) leaves sound.gone;
+      none = some-facts (after_moved ids queue at ms) more some;
+    }
+      where
+        numbers : (m : Message) (b : Bool) → list_any (λ id. id == m.id) ids ≡ b → m.id ≤ length ms → (if b then record m { place = moved_place queue at } else m).id ≤ length (after_moved ids queue at ms)
+        numbers m true e p = omega (arith, p, moved-long)
+        numbers m false e p = omega (arith, p, moved-long)
+
+        calls : (m : Message) (b : Bool) → list_any (λ id. id == m.id) ids ≡ b → length m.recording.calls ≤ 64 → length (if b then record m { place = moved_place queue at } else m).recording.calls ≤ 64
+        calls m true e p = p
+        calls m false e p = p
+
+        stays : (m : Message) (b : Bool) → list_any (λ id. id == m.id) ids ≡ b → Here m → KeptIn c rows (if b then record m { place = moved_place queue at } else m)
+        stays m true e p = λ q. p.0 (alike-live m (each-id (λ id. is_live id ms) m.id ids live e) p.1)
+        stays m false e p = p.0
+
+        leaves : (m : Message) (b : Bool) → list_any (λ id. id == m.id) ids ≡ b → GoneFrom rows m → GoneFrom rows (if b then record m { place = moved_place queue at } else m)
+        leaves m true e p = λ q. absurd (false≢true (sym (moved-unspent queue at) ∙ q))
+        leaves m false e p = p
 
   pub sound-same : IsSound c ms rows more
   sound-same = record { numbered = sound.numbered; short = sound.short; kept = sound.kept; gone = sound.gone; none = some-facts ms more some }
@@ -172,10 +235,10 @@ module _ (c : Catalogue) (ms : List Message) (rows : List MessageRows) (facts : 
   kept-of app =
       let own = All-filter (λ (m : Message). bytes_eq m.recording.app app) (KeptIn c rows) ms sound.kept in
       let queued = All-filter (λ (m : Message). is_queued m.place) (KeptIn c rows) (of_app app ms) own in
-      λ k d lt. queued k d lt (filter_passes (λ (m : Message). is_queued m.place) (of_app app ms) k d lt)
+      λ k d lt. queued k d lt (queued-live (get_or (queued_messages app ms) k d).place (filter_passes (λ (m : Message). is_queued m.place) (of_app app ms) k d lt))
 
   pub found-short : (id : ℕ) (m : Message) → message_of id ms ≡ Some m → length m.recording.calls ≤ 64
   found-short id m e = found-holds (λ (x : Message). length x.recording.calls ≤ 64) (λ (x : Message). x.id == id) ms m sound.short e
 
   pub found-kept : (id : ℕ) (m : Message) → message_of id ms ≡ Some m → is_queued m.place ≡ true → IsKept c rows m
-  found-kept id m e = found-holds (KeptIn c rows) (λ (x : Message). x.id == id) ms m sound.kept e
+  found-kept id m e queued = found-holds (KeptIn c rows) (λ (x : Message). x.id == id) ms m sound.kept e (queued-live m.place queued)

@@ -5,11 +5,11 @@ use Rattle.std.specs.Option.{option_map_or}
 use Rattle.std.proofs.lemmas.Bool.{false≢true}
 use Rattle.std.proofs.lemmas.List.{length_push}
 use Rattle.qc_base.specs.declared.fact.Fact.{Fact}
-use Rattle.qc_base.specs.declared.fact.Fact.TheVariants.{Sent, Played, Failed, Switched}
+use Rattle.qc_base.specs.declared.fact.Fact.TheVariants.{Sent, Played, Failed, Moved, Switched}
 use Rattle.qc_base.specs.declared.log_line.Why.{Why}
 use Rattle.qc_base.specs.declared.message.Message.{Message}
 use Rattle.qc_base.specs.declared.recording.Recording.{Recording}
-use Rattle.qc_base.specs.Messages.{after_consumed, after_failed, after_sent, message_of}
+use Rattle.qc_base.specs.Messages.{after_consumed, after_failed, after_moved, after_sent, message_of}
 use Rattle.qc_catalogue.specs.declared.catalogue.Catalogue.{Catalogue}
 use Rattle.qc_machine.specs.Attempts.{greatest}
 use Rattle.qc_machine.specs.History.{History, attempt_of, names_exception, outcome_on, tables_after, with_fact}
@@ -92,6 +92,26 @@ module _ (old new : HistoryView) (at : ℕ) (counts : Counts at old new) where
     catalogue = counts.catalogue;
     places = counts.places;
   }
+
+  -- a batch of messages that is moved
+  pub adds-moved : (app : List ℕ) (queue : ℕ) (ids : List ℕ) → new.store.messages ≡ after_moved ids queue at old.store.messages → new.tables.tables ≡ old.tables.tables → new.off.names ≡ old.off.names → new.attempt ≡ old.attempt
+      → AddsFact (Moved app queue at ids) Always old new
+  adds-moved app queue ids messages tables off attempt =
+      let fact : Fact = Moved app queue at ids in
+      record {
+        settles = λ h is given few. record {
+          catalogue = counts.catalogue ∙ is.catalogue;
+          messages = messages ∙ ap (after_moved ids queue at) is.messages;
+          tables = tables ∙ is.tables;
+          counted = counted-push h fact is few;
+          last = counts.last;
+          off = off-same h fact new.off.names (λ name. refl) (λ name. ap (is_among name) off ∙ is.off name);
+          attempt = attempt ∙ is.attempt ∙ ap greatest (sym (numbers-same h fact refl));
+        };
+        counted = counts.counted;
+        catalogue = counts.catalogue;
+        places = counts.places;
+      }
 
   -- the end of an attempt
 

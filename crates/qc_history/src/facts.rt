@@ -33,7 +33,9 @@ impl History {
                 self.take_end(alloc, id, number, at, Some(kind), numbers)
             }
             Fact::Failed(id, number, at) => self.take_end(alloc, id, number, at, None, numbers),
-            Fact::Moved(..) => Ok(false),
+            Fact::Moved(app, queue, at, ids) => {
+                Ok(self.take_moved(app, queue, at, ids.as_slice()))
+            }
             Fact::Switched(app, on, at) => self.take_switched(alloc, app, on, at),
         }
     }

@@ -29,12 +29,12 @@ fn fact_in(alloc: Global, bytes: &[u8]) -> Result<Fact, Fail>
     }
 }
 
-// The sample catalogue is in force.
-fn in_force(alloc: Global) -> Result<Vec<u8>, NoMemory> {
-    let catalogue = sample().as_bytes();
+// The catalogue of this text is in force.
+fn in_force(alloc: Global, catalogue: &[u8]) -> Result<Vec<u8>, NoMemory> {
+    let length = u32::try_from(catalogue.len()).map_err(|_| NoMemory)?;
     let mut bytes = Vec::new(alloc);
     put(&mut bytes, &[1])?;
-    put(&mut bytes, &(catalogue.len() as u32).to_be_bytes())?;
+    put(&mut bytes, &length.to_be_bytes())?;
     put(&mut bytes, catalogue)?;
     Ok(bytes)
 }
@@ -53,22 +53,38 @@ fn sent(alloc: Global, id: u64, bolts: u64, at: u64) -> Result<Vec<u8>, NoMemory
     Ok(bytes)
 }
 
-// A normal attempt was committed, or failed.
+// An attempt was committed that is of the kind with this byte, or one failed.
 fn ended(
     alloc: Global,
-    committed: bool,
+    committed: Option<u8>,
     id: u64,
     number: u64,
     at: u64,
 ) -> Result<Vec<u8>, NoMemory> {
     let mut bytes = Vec::new(alloc);
-    put(&mut bytes, if committed { &[3] } else { &[4] })?;
+    let tag: u8 = if committed.is_some() { 3 } else { 4 };
+    put(&mut bytes, &[tag])?;
     put(&mut bytes, &id.to_be_bytes())?;
     put(&mut bytes, &number.to_be_bytes())?;
-    if committed {
-        put(&mut bytes, &[1])?;
+    if let Some(kind) = committed {
+        put(&mut bytes, &[kind])?;
     }
     put(&mut bytes, &at.to_be_bytes())?;
+    Ok(bytes)
+}
+
+// Messages were moved to a queue of an application, whose name has its length in front.
+fn moved(alloc: Global, app: &[u8], queue: u8, ids: &[u64], at: u64) -> Result<Vec<u8>, NoMemory> {
+    let count = u16::try_from(ids.len()).map_err(|_| NoMemory)?;
+    let mut bytes = Vec::new(alloc);
+    put(&mut bytes, &[5])?;
+    put(&mut bytes, app)?;
+    put(&mut bytes, &[queue])?;
+    put(&mut bytes, &at.to_be_bytes())?;
+    put(&mut bytes, &count.to_be_bytes())?;
+    for id in ids {
+        put(&mut bytes, &id.to_be_bytes())?;
+    }
     Ok(bytes)
 }
 
@@ -99,27 +115,32 @@ fn takes(
     }
 }
 
-fn bolts(history: &History) -> Result<u64, NoMemory> {
-    Ok(history.tables().amount(&name("stock")?, &text("bolt")?))
+fn amount(history: &History, table: &str, key: &str) -> Result<u64, NoMemory> {
+    Ok(history.tables().amount(&name(table)?, &text(key)?))
 }
 
-// A fact as a row of the table below tells it: with id, bolts and moment, with id, number and moment, or with the
-// application's name behind its length, and the moment.
+// A fact as a row of the tables below tells it: with id, bolts and moment; with id, number and moment, where a
+// committed attempt may be a final one; or with the application's name behind its length, and the moment, where
+// messages are moved with the queue and their ids between.
 #[derive(Clone, Copy)]
 enum Told {
     InForce,
     Sent(u64, u64, u64),
     Committed(u64, u64, u64),
+    Final(u64, u64, u64),
     Failed(u64, u64, u64),
+    Moved(&'static str, u8, &'static [u64], u64),
     Off(&'static str, u64),
 }
 
-fn spelled(alloc: Global, told: Told) -> Result<Vec<u8>, NoMemory> {
+fn spelled(alloc: Global, catalogue: &str, told: Told) -> Result<Vec<u8>, NoMemory> {
     match told {
-        Told::InForce => in_force(alloc),
+        Told::InForce => in_force(alloc, catalogue.as_bytes()),
         Told::Sent(id, bolts, at) => sent(alloc, id, bolts, at),
-        Told::Committed(id, number, at) => ended(alloc, true, id, number, at),
-        Told::Failed(id, number, at) => ended(alloc, false, id, number, at),
+        Told::Committed(id, number, at) => ended(alloc, Some(1), id, number, at),
+        Told::Final(id, number, at) => ended(alloc, Some(2), id, number, at),
+        Told::Failed(id, number, at) => ended(alloc, None, id, number, at),
+        Told::Moved(app, queue, ids, at) => moved(alloc, app.as_bytes(), queue, ids, at),
         Told::Off(app, at) => switched_off(alloc, app.as_bytes(), at),
     }
 }
@@ -143,28 +164,122 @@ const FACTS: &[(Told, bool)] = &[
     (Told::Failed(2, 4, 10), true),
     (Told::Failed(2, 5, 69), false),
     (Told::Failed(2, 5, 70), true),
-    (Told::Off("\u{6}Nobody", 70), false),
-    (Told::Off("\u{6}Orders", 70), true),
+    (Told::Moved("\u{6}Nobody", 6, &[2], 70), false),
+    (Told::Moved("\u{6}Orders", 6, &[1], 70), false),
+    (Told::Moved("\u{6}Orders", 6, &[2, 3], 70), false),
+    (Told::Moved("\u{6}Orders", 6, &[2, 2], 70), false),
+    (Told::Moved("\u{6}Orders", 6, &[2], 69), false),
+    (Told::Moved("\u{6}Orders", 6, &[2], 70), true),
+    (Told::Failed(2, 6, 200), false),
+    (Told::Moved("\u{6}Orders", 0, &[2], 80), true),
+    (Told::Failed(2, 6, 80), true),
+    (Told::Failed(2, 7, 80), true),
+    (Told::Failed(2, 8, 80), true),
+    (Told::Failed(2, 9, 139), false),
+    (Told::Failed(2, 9, 140), true),
+    (Told::Sent(3, 1, 140), true),
+    (Told::Moved("\u{6}Orders", 4, &[3, 2], 150), true),
+    (Told::Committed(3, 10, 149), false),
+    (Told::Committed(3, 10, 150), true),
+    (Told::Moved("\u{6}Orders", 4, &[2, 3], 150), false),
+    (Told::Off("\u{6}Nobody", 150), false),
+    (Told::Off("\u{6}Orders", 150), true),
+];
+
+// The catalogue of the last attempt below: Plain names an exception class, and nothing is changed outside.
+const LAST: &str = "[table.stock]\n\
+bolt = 10\n\
+[table.lost]\n\
+[table.finals]\n\
+[application.Orders]\n\
+id = \"6f1c2f9e-0b7e-4c52-9d0a-1f2e3d4c5b01\"\n\
+[application.Orders.exception.PlainLast]\n\
+class = \"6f1c2f9e-0b7e-4c52-9d0a-1f2e3d4c5b02\"\n\
+final = 'add finals[\"count\"] 1'\n\
+[application.Orders.exception.PlainLast.method.Take]\n\
+params = [\"in item text\", \"in qty whole\"]\n\
+script = \"add lost[item] qty\"\n\
+[application.Orders.component.Plain]\n\
+class = \"6f1c2f9e-0b7e-4c52-9d0a-1f2e3d4c5b03\"\n\
+exception = \"PlainLast\"\n\
+[application.Orders.component.Plain.method.Take]\n\
+params = [\"in item text\", \"in qty whole\"]\n\
+script = '''\n\
+need stock[item] >= qty\n\
+sub stock[item] qty\n\
+'''\n";
+
+// There is a bolt too few. Before the last attempt there are eighteen others.
+const LAST_FACTS: &[(Told, bool)] = &[
+    (Told::InForce, true),
+    (Told::Sent(1, 11, 0), true),
+    (Told::Final(1, 1, 0), false),
+    (Told::Failed(1, 1, 0), true),
+    (Told::Failed(1, 2, 0), true),
+    (Told::Failed(1, 3, 0), true),
+    (Told::Failed(1, 4, 60), true),
+    (Told::Failed(1, 5, 120), true),
+    (Told::Failed(1, 6, 180), true),
+    (Told::Failed(1, 7, 300), true),
+    (Told::Failed(1, 8, 420), true),
+    (Told::Failed(1, 9, 540), true),
+    (Told::Failed(1, 10, 780), true),
+    (Told::Failed(1, 11, 1020), true),
+    (Told::Failed(1, 12, 1260), true),
+    (Told::Failed(1, 13, 1740), true),
+    (Told::Failed(1, 14, 2220), true),
+    (Told::Failed(1, 15, 2700), true),
+    (Told::Failed(1, 16, 3660), true),
+    (Told::Failed(1, 17, 4620), true),
+    (Told::Failed(1, 18, 5580), true),
+    (Told::Failed(1, 19, 5580), false),
+    (Told::Committed(1, 19, 5580), false),
+    (Told::Final(1, 18, 5580), false),
+    (Told::Final(1, 19, 5579), false),
+    (Told::Final(1, 19, 5580), true),
+    (Told::Moved("\u{6}Orders", 0, &[1], 5580), false),
 ];
 
 // The first row that isn't taken as it tells, or the number of rows.
-fn taken_as_told(alloc: Global, history: &mut History) -> Result<usize, Fail> {
+fn taken_as_told(
+    alloc: Global,
+    history: &mut History,
+    catalogue: &str,
+    facts: &[(Told, bool)],
+) -> Result<usize, Fail> {
     let mut numbers = Vec::new(alloc);
-    for index in 0..FACTS.len() {
-        let (told, taken) = FACTS[index];
-        let bytes = spelled(alloc, told)?;
+    for index in 0..facts.len() {
+        let (told, taken) = facts[index];
+        let bytes = spelled(alloc, catalogue, told)?;
         if takes(alloc, history, &mut numbers, bytes.as_slice())? != taken {
             return Ok(index);
         }
     }
-    Ok(FACTS.len())
+    Ok(facts.len())
 }
 
 #[test]
 fn facts_are_taken_where_they_may_follow(rt: HostRuntime) -> Result<(), Fail> {
     let alloc = rt.alloc();
     let mut history = History::make(alloc)?;
-    assert_eq!(rt; taken_as_told(alloc, &mut history)?, FACTS.len());
-    assert_eq!(rt; bolts(&history)?, 6);
+    assert_eq!(rt;
+        taken_as_told(alloc, &mut history, sample(), FACTS)?,
+        FACTS.len()
+    );
+    assert_eq!(rt; amount(&history, "stock", "bolt")?, 5);
+    Ok(())
+}
+
+#[test]
+fn a_last_attempt_is_taken_after_eighteen_failures(rt: HostRuntime) -> Result<(), Fail> {
+    let alloc = rt.alloc();
+    let mut history = History::make(alloc)?;
+    assert_eq!(rt;
+        taken_as_told(alloc, &mut history, LAST, LAST_FACTS)?,
+        LAST_FACTS.len()
+    );
+    assert_eq!(rt; amount(&history, "stock", "bolt")?, 10);
+    assert_eq!(rt; amount(&history, "lost", "bolt")?, 11);
+    assert_eq!(rt; amount(&history, "finals", "count")?, 1);
     Ok(())
 }

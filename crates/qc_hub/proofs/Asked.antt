@@ -88,7 +88,7 @@ module _ (hub : Hub) (s : State) (h : IsHubOf hub s) (at n : ℕ) where
         let here = subst (λ (c : List (Option Recording)). first_some (busy c) ≡ None) h.clients free in
         let answer = open-past free (Err r) is in
         step-refused-by s at (OpenSlot n app component) r (refusal-open then n app component ∙ first-none (busy s.clients) rest here ∙ ap (λ (a : Result Recording Refusal). first_some (if_refused a ∷ [])) answer)
-        (begun-order s.history.catalogue app component r (ap if_refused answer))
+        (begun-order s.history.catalogue app component r (ap (λ (a : Result Recording Refusal). if_refused a) answer))
 
     pub open-begun : (r : Recording) → first_some (busy hub.clients) ≡ None → begun hub.history.catalogue app component ≡ Ok r → step s (opening at n app component) ≡ stays (later_state at (set_slot n (Some r) hub.clients) s) Opened
     open-begun r free is =
@@ -116,7 +116,7 @@ module _ (hub : Hub) (s : State) (h : IsHubOf hub s) (at n : ℕ) where
 
   module _ (call : RawCall) where
     abbrev last : Option Recording → List (Option Refusal)
-    last held = option_and_then if_refused (option_map (λ (r : Recording). called s.history.catalogue r call) held) ∷ []
+    last held = option_and_then (λ (a : Result Recording Refusal). if_refused a) (option_map (λ (r : Recording). called s.history.catalogue r call) held) ∷ []
 
     pub call-idle : (r : Refusal) → first_some (vacant hub.clients) ≡ Some r → step s (calling at n call) ≡ stays then (Refused r)
     call-idle r is =
@@ -134,7 +134,7 @@ module _ (hub : Hub) (s : State) (h : IsHubOf hub s) (at n : ℕ) where
 
     pub call-refused : (held : Recording) (r : Refusal) → first_some (vacant hub.clients) ≡ None → in_slot n hub.clients ≡ Some held → called hub.history.catalogue held call ≡ Err r → step s (calling at n call) ≡ stays then (Refused r)
     call-refused held r free is e =
-        step-refused-by s at (CallSlot n call) r (refusal-call then n call ∙ past held (Err r) free is e) (called-order s.history.catalogue held call r (ap if_refused (called-here held (Err r) e)))
+        step-refused-by s at (CallSlot n call) r (refusal-call then n call ∙ past held (Err r) free is e) (called-order s.history.catalogue held call r (ap (λ (a : Result Recording Refusal). if_refused a) (called-here held (Err r) e)))
 
     pub call-recorded : (held more : Recording) → first_some (vacant hub.clients) ≡ None → in_slot n hub.clients ≡ Some held → called hub.history.catalogue held call ≡ Ok more
         → step s (calling at n call) ≡ stays (later_state at (set_slot n (Some more) hub.clients) s) (Recorded (length more.calls))

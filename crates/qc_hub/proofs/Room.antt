@@ -50,6 +50,12 @@ module _ (hub : Hub) (s : State) (h : IsHubOf hub s) (more : ℕ) where
       let aside : journal_aside s ≡ 35 * count = ap (λ (n : ℕ). 35 * n) (sym counted) in
       full-is s.journal.size hub.journal.length hub.limits.log_bytes more (journal_aside s) (35 * count) (ap (λ (x : FileEnd). x.size) h.journal) aside s.limits.log_bytes limit fits e
 
+  -- no file has room for more bytes than a number says
+  pub journal-always-full : hub.limits.log_bytes < more → Some (Full hub.journal.length) ≡ journal_full s more
+  journal-always-full few =
+      let count : ℕ = count_without_fact (players_of hub.players) in
+      journal-full-is count refl false (sym (lt-leb (hub.journal.length + 35 * count + more) hub.limits.log_bytes (omega (arith, few))))
+
   pub log-full-is : (count : ℕ) → count ≡ length (held_in (players_of hub.players)) → (fits : Bool) → fits ≡ leb (hub.log.length + 512 * count + more) hub.limits.log_bytes
       → refuse_if (not fits) (Full hub.log.length) ≡ log_full s more
   log-full-is count is fits e =

@@ -59,7 +59,7 @@ module _ (s : State) (at : ℕ) (app component : List ℕ) (calls : List RawCall
 
   pub send-refused : (r : Refusal) → answer ≡ Err r → step s (sending at app component calls) ≡ stays then (Refused r)
   send-refused r is =
-      step-refused-by s at (Send app component calls) r (refusal-send then app component calls ∙ ap refused_by is) (recorded-order s.history.catalogue app component calls r (ap if_refused is))
+      step-refused-by s at (Send app component calls) r (refusal-send then app component calls ∙ ap refused_by is) (recorded-order s.history.catalogue app component calls r (ap (λ (a : Result Recording Refusal). if_refused a) is))
 
   pub send-nothing : (r : Recording) → answer ≡ Ok r → if_called r ≡ None → step s (sending at app component calls) ≡ stays then SentNothing
   send-nothing r is none =

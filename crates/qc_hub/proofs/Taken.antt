@@ -1,8 +1,6 @@
 -- The message that is taken, and why none is.
 use Rattle.std.proofs.Common.{◌≡◌, ◌∙◌, ℕ, ◌==◌, List, [], ◌∷◌, ◌++◌, Bool, true, false, not, cond, ◌&&◌, length, filter, is_none, refl, sym, ap, subst, Option, Some, None, option_map, option_and_then, eqb-true, is_some, Ok, Err}
 use Rattle.std.proofs.lemmas.Bool.{not-false}
-use Rattle.qc_base.specs.declared.fact.Kind.{Kind}
-use Rattle.qc_base.specs.declared.fact.Kind.TheVariants.{Normal, Final}
 use Rattle.qc_base.specs.declared.message.Message.{Message}
 use Rattle.qc_base.specs.Spelling.{is_attempt}
 use Rattle.qc_protocol.specs.declared.order.Act.TheVariants.{Take}
@@ -31,7 +29,7 @@ use Rattle.qc_machine.proofs.Bools.{and-left, and-right}
 use Rattle.qc_machine.proofs.Keeping.{settled-orderly}
 use Rattle.qc_machine.proofs.Taken.{IsChosen, chosen-is}
 use Rattle.qc_machine.specs.Attempts.{blocked_count, chosen_message, earliest_of, next_attempt}
-use Rattle.qc_machine.specs.History.{is_on, kind_eq, plays_inside}
+use Rattle.qc_machine.specs.History.{is_on, plays_inside}
 use Rattle.qc_machine.specs.Names.{app_unknown}
 use Rattle.qc_machine.specs.Refuse.{first_some, refuse_if}
 use Rattle.qc_machine.specs.Rooms.{journal_full, log_full, no_number, room_for, take_full}
@@ -44,7 +42,7 @@ use Rattle.qc_machine.proofs.Steps.{refusal-take}
 use Rattle.qc_hub.specs.declared.hub.Hub.{Hub}
 use Rattle.qc_hub.specs.Rooms.{SameBut, attempt_number}
 use Rattle.qc_hub.specs.Stands.{IsFit, IsHubOf}
-use Rattle.qc_hub.specs.Taking.{Chooses, Numbers, is_normal, untaken, unplayed}
+use Rattle.qc_hub.specs.Taking.{Chooses, Numbers, untaken, unplayed}
 use Rattle.qc_hub.proofs.AddedEnd.{due-queued}
 use Rattle.qc_hub.proofs.Fit.{was-history}
 
@@ -173,50 +171,44 @@ module _ (hub : Hub) (s : State) (h : IsHubOf hub s) (n : ℕ) (app : List ℕ) 
 found-wait : (c : Catalogue) (m : Message) (b : Bool) → is_queued m.place ≡ b → b ≡ true → kind_on c m ≡ cond (plays_inside c m.recording (kind_at m.place)) (Some (kind_at m.place)) None
 found-wait c m b e true_ = ap (λ (x : Bool). cond (x && plays_inside c m.recording (kind_at m.place)) (Some (kind_at m.place)) None) (e ∙ true_)
 
-normal-is : (c : Catalogue) (m : Message) → is_queued m.place ≡ true → is_normal (kind_on c m) ≡ can_play c m
-normal-is c m queued = ap is_normal (found-wait c m true queued refl) ∙ by (kind_at m.place) (plays_inside c m.recording (kind_at m.place))
+kind-is : (c : Catalogue) (m : Message) → is_queued m.place ≡ true → is_some (kind_on c m) ≡ can_play c m
+kind-is c m queued = ap is_some (found-wait c m true queued refl) ∙ by (plays_inside c m.recording (kind_at m.place))
   where
-    by : (kind : Kind) (b : Bool) → is_normal (cond b (Some kind) None) ≡ (kind_eq kind Normal && b)
-    by Normal true = refl
-    by Normal false = refl
-    by Final true = refl
-    by Final false = refl
-
-some-normal : (o : Option Kind) → is_normal o ≡ true → is_some o ≡ true
-some-normal (Some kind) e = refl
-some-normal None e = cc
+    by : (b : Bool) → is_some (cond b (Some (kind_at m.place)) None) ≡ b
+    by true = refl
+    by false = refl
 
 module _ (hub : Hub) (s : State) (h : IsHubOf hub s) (app : List ℕ) (m : Message) (id : ℕ) (taken : chosen_message s app ≡ Some m) (same : m.id ≡ id) where
   picked : IsChosen s m
   picked = chosen-is s app m (settled-orderly by_text s h.settled) taken
 
-  can-here : is_normal (kind_of_attempt hub.history.catalogue id hub.history.store.messages) ≡ can_play s.history.catalogue m
+  can-here : is_some (kind_of_attempt hub.history.catalogue id hub.history.store.messages) ≡ can_play s.history.catalogue m
   can-here =
-      (λ i. is_normal (kind_of_attempt (h.history.catalogue i) (sym same i) (h.history.messages i)))
-      ∙ ap (λ (o : Option Message). is_normal (option_and_then (kind_on s.history.catalogue) o)) picked.found
-      ∙ normal-is s.history.catalogue m (due-queued s.last m.place picked.due)
+      (λ i. is_some (kind_of_attempt (h.history.catalogue i) (sym same i) (h.history.messages i)))
+      ∙ ap (λ (o : Option Message). is_some (option_and_then (kind_on s.history.catalogue) o)) picked.found
+      ∙ kind-is s.history.catalogue m (due-queued s.last m.place picked.due)
 
   can-play : unplayed s m ≡ None → can_play s.history.catalogue m ≡ true
   can-play free = not-false _ (not-refused (not (can_play s.history.catalogue m)) NotBuilt (none-first (refuse_if (not (can_play s.history.catalogue m)) NotBuilt) (take_full s m ∷ []) free).0)
 
   pub playable : unplayed s m ≡ None → is_playable s.history.catalogue m.recording (kind_at m.place) ≡ true
-  playable free = and-left (is_playable s.history.catalogue m.recording (kind_at m.place)) _ (and-right (kind_eq (kind_at m.place) Normal) _ (can-play free))
+  playable free = and-left (is_playable s.history.catalogue m.recording (kind_at m.place)) _ (can-play free)
 
   pub kind-there : unplayed s m ≡ None → is_some (kind_of_attempt hub.history.catalogue id hub.history.store.messages) ≡ true
-  kind-there free = some-normal (kind_of_attempt hub.history.catalogue id hub.history.store.messages) (can-here ∙ can-play free)
+  kind-there free = can-here ∙ can-play free
 
-  pub not-normal : is_normal (kind_of_attempt hub.history.catalogue id hub.history.store.messages) ≡ false → Numbers s m (Err NotBuilt)
-  not-normal e = ap (λ (b : Bool). first_some (refuse_if (not b) NotBuilt ∷ take_full s m ∷ [])) (sym can-here ∙ e)
+  pub not-built : is_some (kind_of_attempt hub.history.catalogue id hub.history.store.messages) ≡ false → Numbers s m (Err NotBuilt)
+  not-built e = ap (λ (b : Bool). first_some (refuse_if (not b) NotBuilt ∷ take_full s m ∷ [])) (sym can-here ∙ e)
 
-  module _ (normal : is_normal (kind_of_attempt hub.history.catalogue id hub.history.store.messages) ≡ true) where
+  module _ (built : is_some (kind_of_attempt hub.history.catalogue id hub.history.store.messages) ≡ true) where
     can : can_play s.history.catalogue m ≡ true
-    can = sym can-here ∙ normal
+    can = sym can-here ∙ built
 
     inside : plays_inside s.history.catalogue m.recording (kind_at m.place) ≡ true
-    inside = and-right (kind_eq (kind_at m.place) Normal) _ can
+    inside = can
 
-    past-normal : unplayed s m ≡ first_some (take_full s m ∷ [])
-    past-normal = ap (λ (b : Bool). first_some (refuse_if (not b) NotBuilt ∷ take_full s m ∷ [])) can
+    past-built : unplayed s m ≡ first_some (take_full s m ∷ [])
+    past-built = ap (λ (b : Bool). first_some (refuse_if (not b) NotBuilt ∷ take_full s m ∷ [])) can
 
     room-is : room_for s m ≡ 512
     room-is = quiet-room (parts_of s.history.catalogue m.recording (kind_at m.place)) (eqb-true _ 0 (and-right (is_playable s.history.catalogue m.recording (kind_at m.place)) _ inside))
@@ -225,15 +217,15 @@ module _ (hub : Hub) (s : State) (h : IsHubOf hub s) (app : List ℕ) (m : Messa
     full_by journal log number = first_some (first_some (journal ∷ log ∷ number ∷ []) ∷ [])
 
     pub journal-lacks : (r : Refusal) → journal_full s 35 ≡ Some r → Numbers s m (Err r)
-    journal-lacks r e = past-normal ∙ ap (λ (o : Option Refusal). full_by o (log_full s (room_for s m)) (no_number s)) e
+    journal-lacks r e = past-built ∙ ap (λ (o : Option Refusal). full_by o (log_full s (room_for s m)) (no_number s)) e
 
     pub log-lacks : (r : Refusal) → journal_full s 35 ≡ None → log_full s 512 ≡ Some r → Numbers s m (Err r)
     log-lacks r a b =
-        past-normal ∙ ap (λ (o : Option Refusal). full_by o (log_full s (room_for s m)) (no_number s)) a ∙ ap (λ (n : ℕ). full_by None (log_full s n) (no_number s)) room-is ∙ ap (λ (o : Option Refusal). full_by None o (no_number s)) b
+        past-built ∙ ap (λ (o : Option Refusal). full_by o (log_full s (room_for s m)) (no_number s)) a ∙ ap (λ (n : ℕ). full_by None (log_full s n) (no_number s)) room-is ∙ ap (λ (o : Option Refusal). full_by None o (no_number s)) b
 
     behind-logs : journal_full s 35 ≡ None → log_full s 512 ≡ None → unplayed s m ≡ full_by None None (no_number s)
     behind-logs a b =
-        past-normal ∙ ap (λ (o : Option Refusal). full_by o (log_full s (room_for s m)) (no_number s)) a ∙ ap (λ (n : ℕ). full_by None (log_full s n) (no_number s)) room-is ∙ ap (λ (o : Option Refusal). full_by None o (no_number s)) b
+        past-built ∙ ap (λ (o : Option Refusal). full_by o (log_full s (room_for s m)) (no_number s)) a ∙ ap (λ (n : ℕ). full_by None (log_full s n) (no_number s)) room-is ∙ ap (λ (o : Option Refusal). full_by None o (no_number s)) b
 
     number-by : (b : Bool) → is_attempt (next_attempt s) ≡ b → (o : Option ℕ) → cond b (Some (next_attempt s)) None ≡ o → journal_full s 35 ≡ None → log_full s 512 ≡ None
         → (number : ℕ) → o ≡ Some number → Numbers s m (Ok number)

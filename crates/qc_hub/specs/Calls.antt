@@ -3,7 +3,7 @@ use Rattle.std.specs.Prelude.{◌≡◌, ◌⊎◌, ◌<◌, ◌≤◌, ℕ, [],
 use Rattle.std.specs.declared.result.Result.{Result}
 use Rattle.qc_base.specs.declared.fact.Fact.{Fact}
 use Rattle.qc_protocol.specs.declared.order.Order.{Order}
-use Rattle.qc_protocol.specs.declared.order.Act.TheVariants.{OpenSlot, CallSlot, CommitSlot, CancelSlot, Send, Take, Work, End, Phase, Play, Switch, Queues, Table, Outside}
+use Rattle.qc_protocol.specs.declared.order.Act.TheVariants.{OpenSlot, CallSlot, CommitSlot, CancelSlot, Send, Take, Work, End, Phase, Play, Move, Switch, Queues, Table, Outside}
 use Rattle.qc_protocol.specs.declared.order.RawCall.{RawCall}
 use Rattle.qc_protocol.specs.declared.reply.Reply.{Reply}
 use Rattle.qc_protocol.specs.declared.reply.Reply.TheVariants.{Refused as ReplyRefused}
@@ -67,6 +67,9 @@ finishing at player = record { at = at; act = Phase player }
 
 abbrev pub playing : ℕ → ℕ → List ℕ → Order
 playing at player app = record { at = at; act = Play player app }
+
+abbrev pub moving : ℕ → List ℕ → List ℕ → ℕ → Order
+moving at from to batch = record { at = at; act = Move from to batch }
 
 abbrev pub switching : ℕ → List ℕ → Bool → Order
 switching at app on = record { at = at; act = Switch app on }

@@ -1,4 +1,5 @@
 pub mod Calls
+pub mod Moving
 pub mod Opening
 pub mod Outside
 pub mod Rooms

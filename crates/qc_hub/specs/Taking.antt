@@ -1,8 +1,6 @@
 -- Attempts that players begin.
-use Rattle.std.specs.Prelude.{◌≡◌, ℕ, ◌-◌, List, [], ◌∷◌, Bool, true, false, Option, Some, None, not, Ok, Err, if◌then◌else◌, IfOk, IfErr}
+use Rattle.std.specs.Prelude.{◌≡◌, ℕ, ◌-◌, List, [], ◌∷◌, true, Option, Some, None, not, Ok, Err, if◌then◌else◌, IfOk, IfErr}
 use Rattle.std.specs.declared.result.Result.{Result}
-use Rattle.qc_base.specs.declared.fact.Kind.{Kind}
-use Rattle.qc_base.specs.declared.fact.Kind.TheVariants.{Normal, Final}
 use Rattle.qc_base.specs.declared.message.Message.{Message}
 use Rattle.qc_protocol.specs.declared.order.Act.TheVariants.{Take}
 use Rattle.qc_protocol.specs.declared.reply.Refusal.{Refusal}
@@ -45,11 +43,6 @@ Chooses s n app (Err r) = untaken s n app ≡ Some r
 abbrev pub Numbers : State → Message → Result ℕ Refusal → Type 0
 Numbers s m (Ok number) = (unplayed s m ≡ None) × (number ≡ next_attempt s)
 Numbers s m (Err r) = unplayed s m ≡ Some r
-
-abbrev pub is_normal : Option Kind → Bool
-is_normal (Some Normal) = true
-is_normal (Some Final) = false
-is_normal None = false
 
 -- a message may be taken, and this is the attempt on it
 pub record IsTaken (s : State) (n : ℕ) (app : List ℕ) (a : HeldAttempt) : Type 0 where

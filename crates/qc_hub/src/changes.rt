@@ -1,11 +1,12 @@
 // Changes of the site, each one step: a fact is added to the journal, and then settled.
-ghost use Rattle.std.specs.Prelude.{◌≡◌, ◌+◌, ◌≤◌, true, [], length, ℕ, IsErrOf, None, is_some};
+ghost use Rattle.std.specs.Prelude.{◌≡◌, ◌+◌, ◌≤◌, true, [], ◌∷◌, length, ℕ, IsErrOf, OnOk, None, is_some};
 ghost use Rattle.qc_base.specs.declared.recording.Recording.{Recording};
 ghost use Rattle.qc_base.specs.Spelling.{is_recording};
 ghost use Rattle.qc_catalogue.specs.Lookup.{app_named};
 ghost use Rattle.qc_frame.specs.Calls.{LogStands};
 ghost use Rattle.qc_history.specs.Playing.{fact_ended};
 ghost use Rattle.qc_journal.specs.Journal.{CanAppend, log_of};
+ghost use Rattle.qc_machine.specs.Moving.{moved_by};
 ghost use Rattle.qc_machine.specs.Playing.{end_in, end_reply, on_held, play_in, play_reply};
 ghost use Rattle.qc_machine.specs.Sending.{added, fact_sent};
 ghost use Rattle.qc_machine.specs.State.{in_slot};
@@ -15,6 +16,7 @@ ghost use Rattle.qc_players.specs.Players.{held_of, players_of};
 ghost use Rattle.qc_players.specs.declared.order.PlayerOrder.TheVariants.{End as end_order};
 ghost use Rattle.qc_recorder.specs.Fits.{recording_fits};
 ghost use Rattle.qc_hub.specs.Calls.{Appends, IsReady, StepsBy};
+ghost use Rattle.qc_hub.specs.Moving.{AreBatches, HasBatch, IsBatch};
 ghost use Rattle.qc_hub.specs.Rooms.{HasRoom};
 ghost use Rattle.qc_hub.specs.Taking.{IsBegun};
 
@@ -133,6 +135,48 @@ impl Hub {
         self.append(site, &fact)?;
         self.history.end(&attempt, self.last);
         Ok(play_reply(alloc, &attempt))
+    }
+}
+
+impl Hub {
+    // The batches of a move are added and settled one after another. There is room for each of them.
+    pub(crate) fn add_batches<S: Site>(
+        &mut self,
+        site: &mut S,
+        facts: &[Fact],
+        count: u64,
+    ) -> Result<Reply, HubError>
+        requires ready { IsReady S.Site self.old site.old }
+        requires batches { AreBatches facts.now self.old }
+        ensures steps { StepsBy S.Site 0 (λ s. moved_by facts.now count s) result self.old site.old self.new site.new }
+        ensures takes_no_memory { ¬ IsErrOf result HubError.NoMemory }
+    {
+        for fact in facts {
+            self.add_batch(site, fact, count)?;
+        }
+        Ok(Reply::Moved(count))
+    }
+
+    // A batch of a move of so many messages is added and settled, for which there is room.
+    fn add_batch<S: Site>(
+        &mut self,
+        site: &mut S,
+        fact: &Fact,
+        count: u64,
+    ) -> Result<Reply, HubError>
+        requires ready { IsReady S.Site self.old site.old }
+        requires batch { IsBatch fact.now self.old }
+        ensures steps { StepsBy S.Site 0 (λ s. moved_by (fact.now ∷ []) count s) result self.old site.old self.new
+            site.new }
+        ensures takes_no_memory { ¬ IsErrOf result HubError.NoMemory }
+        ensures added { OnOk result (HasBatch fact.now self.old self.new) }
+    {
+        self.append(site, fact)?;
+        let Fact::Moved(_, queue, at, ids) = fact else {
+            unreachable!();
+        };
+        self.history.move_batch(ids.as_slice(), *queue, *at);
+        Ok(Reply::Moved(count))
     }
 }
 

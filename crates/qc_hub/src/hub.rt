@@ -13,7 +13,7 @@ use qc_history::History;
 use qc_journal::Journal;
 use qc_machine::Limits;
 use qc_players::Players;
-use qc_protocol::{Act, Order, Refusal, Reply};
+use qc_protocol::{Act, Order, Reply};
 use qc_site::Site;
 use std::alloc::Global;
 
@@ -70,8 +70,9 @@ impl Hub {
 
     /// One step of the machine (docs/RULES.md, "The machine").
     ///
-    /// `SiteFault` comes only where the site's count of faults rose. The order's fact then stands or not, the last
-    /// moment seen has moved, and the hub is in fault. After `NoMemory` nothing changed but the last moment seen.
+    /// `SiteFault` comes only where the site's count of faults rose. The order's fact then stands or not (of a move,
+    /// the first of its facts, as many as there are), the last moment seen has moved, and the hub is in fault. After
+    /// `NoMemory` nothing changed but the last moment seen.
     pub fn apply<S: Site>(
         &mut self,
         alloc: Global,
@@ -102,11 +103,13 @@ impl Hub {
             Act::End(player) => self.end(alloc, site, at, *player),
             Act::Phase(player) => self.phase(alloc, site, at, *player),
             Act::Play(player, app) => self.play(alloc, site, at, *player, app.as_slice()),
+            Act::Move(from, to, batch) => {
+                self.move_messages(alloc, site, at, from.as_slice(), to.as_slice(), *batch)
+            }
             Act::Switch(app, on) => self.switch_app(alloc, site, at, app.as_slice(), *on),
             Act::Queues(app) => self.queues(alloc, at, app.as_slice()),
             Act::Table(table) => self.table(alloc, at, table.as_slice()),
             Act::Outside(resource) => self.outside(alloc, site, at, resource.as_slice()),
-            _ => Ok(Reply::Refused(Refusal::NotBuilt)),
         }
     }
 }

@@ -8,7 +8,7 @@
 //! The steps are those of `qc_machine`. `specs/Stands.antt` says what the fields of a hub mean there, and
 //! `specs/Calls.antt` what each call is given and what it leaves, over any site and any step. `changes` has all code by
 //! which an order changes the site; each family of orders has a module (`recording`, `sending`, `taking`, `playing`,
-//! `switching`, `listing`, `table`, `outside`). `clients` has the recorders, and `rooms` tells where a log has no room.
+//! `moving`, `switching`, `listing`, `table`, `outside`). `clients` has the recorders, and `rooms` tells where a log has no room.
 #![tactic(auto)]
 
 mod changes;
@@ -17,11 +17,13 @@ mod creation;
 mod error;
 mod hub;
 mod listing;
+mod moving;
 mod opening;
 mod outside;
 mod playing;
 mod recording;
 mod rooms;
+mod route;
 mod sending;
 mod switching;
 mod table;

@@ -7,12 +7,12 @@ ghost use Rattle.qc_machine.specs.State.{State};
 ghost use Rattle.qc_machine.specs.Step.{step};
 ghost use Rattle.qc_hub.specs.Calls.{CarriesOut, IsReady, StepsInMemory, taking};
 ghost use Rattle.qc_hub.specs.Stands.{IsHubOf};
-ghost use Rattle.qc_hub.specs.Taking.{Begins, Chooses, Numbers, is_normal, last_after, taken, told_of};
+ghost use Rattle.qc_hub.specs.Taking.{Begins, Chooses, Numbers, last_after, taken, told_of};
 
 use crate::error::HubError;
 use crate::hub::{Hub, later};
 use crate::rooms::{FACT_ROOM, LOG_ROOM};
-use qc_base::{Kind, Moment};
+use qc_base::Moment;
 use qc_listener::{Chosen, choose};
 use qc_protocol::{Refusal, Reply};
 use qc_site::Site;
@@ -128,7 +128,7 @@ impl Hub {
         ensures { (s : State) (app : List ℕ) (m : Message) → IsHubOf self.now s → chosen_message s app ≡ Some m
             → m.id ≡ id → Numbers s m result }
     {
-        if !is_normal(self.history.kind_of_attempt(id)) {
+        if self.history.kind_of_attempt(id).is_none() {
             return Err(Refusal::NotBuilt);
         }
         if let Some(full) = self.journal_full(FACT_ROOM) {
@@ -172,13 +172,6 @@ fn last_after(why: &NotBegun, before: Moment, used: Moment) -> Moment
         NotBegun::Refused(refusal) => { if is_of_line(*refusal) { before } else { used } }
         NotBegun::NoMemory => used,
     }
-}
-
-// Whether there is a kind, and it is the normal one.
-fn is_normal(kind: Option<Kind>) -> bool
-    ensures { result ≡ is_normal kind }
-{
-    matches!(kind, Some(Kind::Normal))
 }
 
 // What is told of an attempt that is taken.

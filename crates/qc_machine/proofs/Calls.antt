@@ -1,21 +1,19 @@
 -- A call of a held attempt leads on from the settled amounts.
-use Rattle.std.proofs.Common.{◌≡◌, ◌∙◌, ◌⊎◌, inl, inr, ℕ, ◌+◌, ◌≤◌, ◌==◌, zero, suc, List, [], ◌∷◌, ◌++◌, Bool, true, false, cond, ◌&&◌, length, take, drop, slice_get, refl, sym, ap, subst, arith, Option, Some, None, eqb-true, eq-eqb, take_all}
+use Rattle.std.proofs.Common.{◌≡◌, ◌∙◌, ◌⊎◌, inl, inr, ℕ, ◌+◌, ◌≤◌, ◌==◌, zero, suc, List, [], ◌∷◌, ◌++◌, Bool, true, false, cond, length, take, drop, slice_get, refl, sym, ap, subst, arith, Option, Some, None, eqb-true, take_all}
 use Rattle.std.specs.Option.{option_map_or}
 use Rattle.std.proofs.lemmas.Bool.{and_parts, eqb-false}
 use Rattle.std.proofs.lemmas.List.Sums.{sum_by-cons}
 use Rattle.qc_base.specs.declared.log_line.Stage.TheVariants.{Calls, Ready, Failing}
-use Rattle.qc_base.specs.declared.recording.Row.{Row}
 use Rattle.qc_catalogue.specs.declared.catalogue.Catalogue.{Catalogue}
 use Rattle.qc_script.specs.declared.step.Step.{Step}
 use Rattle.qc_script.specs.declared.step.Step.TheVariants.{Need, When, Add, Sub, Set, Move, Grow, Shrink, Retract, Fail, Abort}
 use Rattle.qc_script.specs.Naming.{effect_of, effects, out_of, outs}
 use Rattle.qc_play.specs.Play.{Play, Ran, ran, failed_at, run_call, rows_in}
-use Rattle.qc_play.specs.declared.record.PlayRecord.{PlayRecord}
 use Rattle.qc_play.proofs.CallCounts.{call-adds}
 use Rattle.qc_play.proofs.Playing.{call_rows}
 use Rattle.qc_txn.specs.Attempt.{effects_in}
 use Rattle.qc_txn.specs.Outcome.{all_played, stopped_at, play_all}
-use Rattle.qc_txn.specs.Parts.{Part, is_playable, parts_of}
+use Rattle.qc_txn.specs.Parts.{Part, is_playable}
 use Rattle.qc_txn.proofs.PartsAt.{effects_at, nothing_at}
 use Rattle.qc_machine.specs.Attempts.{parts_held}
 use Rattle.qc_machine.specs.History.{History, plays_inside}

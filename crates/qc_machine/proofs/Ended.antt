@@ -1,8 +1,8 @@
 -- The end of a held attempt: its fact may follow, and what it leaves of this attempt and of others.
-use Rattle.std.proofs.Common.{◌≡◌, ◌∙◌, ℕ, ◌≤◌, ◌==◌, leb, List, [], ◌∷◌, Bool, true, false, not, cond, ◌&&◌, ◌||◌, refl, sym, ap, subst, arith, true≢false, Option, Some, None, is_none, eq-eqb, eqb-true, le-leb, filter_map}
+use Rattle.std.proofs.Common.{◌≡◌, ◌∙◌, ℕ, ◌==◌, List, [], ◌∷◌, Bool, true, false, not, cond, ◌||◌, refl, sym, ap, true≢false, Option, Some, None, is_none, eq-eqb, eqb-true, filter_map}
 use Rattle.std.specs.List.{list_any, list_all, cons_option}
 use Rattle.std.specs.Option.{option_map_or}
-use Rattle.std.proofs.lemmas.Bool.{and_from, or_parts, or_left, or_right, cond-true, cond-false, not-true, eqb-false, false_from_ne_true, not_from_true}
+use Rattle.std.proofs.lemmas.Bool.{and_from, or_parts, or_left, or_right, cond-true, cond-false, not-true, eqb-false, false_from_ne_true}
 use Rattle.qc_base.specs.declared.message.Message.{Message}
 use Rattle.qc_base.specs.declared.fact.Fact.{Fact}
 use Rattle.qc_base.specs.declared.fact.Fact.TheVariants.{Catalogue as InForce, Sent, Played, Failed, Moved, Switched}
@@ -13,7 +13,7 @@ use Rattle.qc_base.specs.declared.fact.Place.TheVariants.{Consumed}
 use Rattle.qc_base.specs.declared.log_line.Stage.{Stage}
 use Rattle.qc_base.specs.declared.log_line.Stage.TheVariants.{Calls, Ready, Failing, Commit, Abort}
 use Rattle.qc_base.specs.declared.log_line.Why.{Why}
-use Rattle.qc_base.specs.declared.log_line.Why.TheVariants.{Step as AtStep, Forced, NotReady}
+use Rattle.qc_base.specs.declared.log_line.Why.TheVariants.{Step as AtStep}
 use Rattle.qc_base.specs.declared.recording.Recording.{Recording}
 use Rattle.qc_base.specs.declared.recording.Row.{Row}
 use Rattle.qc_base.specs.declared.recording.Space.{Space}
@@ -28,17 +28,14 @@ use Rattle.qc_play.proofs.RowNames.{row-flip}
 use Rattle.qc_rows.specs.Settling.{is_inside, settled_by, settled_one}
 use Rattle.qc_rows.specs.Tables.{TableRows, row_amount}
 use Rattle.qc_rows.proofs.Settling.{one-other}
-use Rattle.qc_txn.specs.Attempt.{stage_by}
-use Rattle.qc_txn.specs.Outcome.{PlayedAll, Outcome, all_played, stopped_at, commits, fails, decision, ended, new_play, not_ready, outcome, play_all, view_of, why_by}
+use Rattle.qc_txn.specs.Outcome.{PlayedAll, Outcome, all_played, stopped_at, commits, fails, decision, ended, new_play, not_ready, play_all, view_of, why_by}
 use Rattle.qc_txn.specs.Parts.{Part, parts_of, rows_of_attempt}
 use Rattle.qc_listener.specs.Choice.{is_due, kind_at}
-use Rattle.qc_machine.specs.Attempts.{parts_held}
 use Rattle.qc_machine.specs.History.{Reader, History, with_fact, settled_amount, outcome_on, tables_after, committed_tables, attempt_of, is_new_attempt, kind_eq, is_commit, bool_eq, plays_inside, may_end, may_end_on, kind_of, is_later, may_follow}
-use Rattle.qc_machine.specs.Holding.{has_row, is_about, IsOpen, IsReady, IsFailing, HasFact, HasCome, IsHeldIn, AreApart}
+use Rattle.qc_machine.specs.Holding.{has_row, is_about, IsOpen, IsReady, IsFailing, HasFact, IsHeldIn, AreApart}
 use Rattle.qc_machine.specs.Playing.{fact_of_end, ended_attempt, why_ended}
 use Rattle.qc_machine.specs.State.{HeldAttempt}
-use Rattle.qc_machine.proofs.Beside.{IsAside, fact-aside, rows_held, is_of_attempt, new-push, found-map, about-after}
-use Rattle.qc_machine.proofs.PlayerSlots.{any-map}
+use Rattle.qc_machine.proofs.Beside.{IsAside, fact-aside, is_of_attempt, new-push, found-map, about-after}
 
 -- the rows of a view as its calls run
 

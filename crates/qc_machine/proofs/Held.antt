@@ -1,18 +1,14 @@
 -- What players hold, behind each change of a state.
-use Rattle.std.proofs.Common.{◌≡◌, ◌∙◌, ◌⊎◌, inl, inr, ⊎_elim, ℕ, ◌-◌, ◌≤◌, ◌==◌, max, List, [], ◌∷◌, ◌++◌, Bool, true, false, length, slice_get, refl, sym, ap, subst, arith, true≢false, Option, Some, None, ne_eqb}
+use Rattle.std.proofs.Common.{◌≡◌, ◌∙◌, ◌⊎◌, ⊎_elim, ℕ, ◌-◌, ◌==◌, max, List, Bool, false, length, slice_get, refl, sym, ap, arith, true≢false, Option, Some, None, ne_eqb}
 use Rattle.std.proofs.lemmas.Bool.{eqb-false, false_from_ne_true}
-use Rattle.qc_base.specs.declared.fact.Fact.{Fact}
-use Rattle.qc_base.specs.declared.fact.Fact.TheVariants.{Sent, Switched}
-use Rattle.qc_base.specs.declared.message.Message.{Message}
-use Rattle.qc_base.specs.declared.log_line.Why.{Why}
+use Rattle.qc_base.specs.declared.fact.Fact.TheVariants.{Moved, Sent, Switched}
 use Rattle.qc_base.specs.declared.recording.Recording.{Recording}
-use Rattle.qc_base.specs.declared.recording.Row.{Row}
-use Rattle.qc_base.specs.Messages.{message_of}
 use Rattle.qc_play.specs.Play.{rows_in}
-use Rattle.qc_machine.specs.History.{History, with_fact}
-use Rattle.qc_machine.specs.Holding.{has_row, HaveNoCommon, Holds, IsHeldIn, AreApart, AreHeld}
-use Rattle.qc_machine.specs.State.{State, HeldAttempt, at_moment, set_slot, with_player, with_new_fact}
+use Rattle.qc_machine.specs.History.{with_fact}
+use Rattle.qc_machine.specs.Holding.{has_row, Holds, IsHeldIn, IsHeldByNone, AreApart, AreHeld}
+use Rattle.qc_machine.specs.State.{State, HeldAttempt, at_moment, set_slot, with_new_fact}
 use Rattle.qc_machine.proofs.Beside.{aside-same, fact-aside, found-append, held-aside}
+use Rattle.qc_machine.proofs.Moved.{not-moved}
 use Rattle.qc_machine.proofs.PlayerSlots.{got-set, set-length}
 
 eq-flip : (a b : ℕ) → (a == b) ≡ false → (b == a) ≡ false
@@ -80,3 +76,14 @@ held-switched s app on at held =
     held-on s (with_new_fact (Switched app on at) s) refl
     (λ c is. held-aside s.history (with_fact (Switched app on at) s.history) c
     (fact-aside s.history (Switched app on at) c refl refl (λ m e. e) (λ r t. refl)) s.last s.last (omega arith) is) held
+
+-- behind a move of messages that no attempt holds
+
+pub held-moved : (s : State) (app : List ℕ) (queue at : ℕ) (ids : List ℕ) → IsHeldByNone s ids → AreHeld s → AreHeld (with_new_fact (Moved app queue at ids) s)
+held-moved s app queue at ids free held = record {
+  slots = held.slots;
+  held = λ i a there.
+      held-aside s.history (with_fact (Moved app queue at ids) s.history) a
+      (fact-aside s.history (Moved app queue at ids) a refl refl (λ m e. not-moved ids queue at a.id s.history.messages (free i a there) ∙ e) (λ r t. refl)) s.last s.last (omega arith) (held.held i a there);
+  apart = held.apart;
+}

@@ -1,5 +1,5 @@
 -- A history with one fact more.
-use Rattle.std.proofs.Common.{◌≡◌, ℕ, ◌+◌, ◌≤◌, leb, eqb, List, [], ◌∷◌, ◌++◌, length, Bool, true, false, ◌&&◌, refl, ap, sym, ◌∙◌, eq-eqb, arith, length-append, append-nil, append_assoc, Option, Some, None, unwrap_or}
+use Rattle.std.proofs.Common.{◌≡◌, ℕ, ◌+◌, ◌≤◌, leb, eqb, List, [], ◌∷◌, ◌++◌, length, Bool, true, ◌&&◌, refl, ap, sym, ◌∙◌, eq-eqb, arith, length-append, append-nil, append_assoc, Option, Some, None, unwrap_or}
 use Rattle.std.specs.List.{list_all}
 use Rattle.std.proofs.lemmas.Bool.{le-leb, leb-true}
 use Rattle.std.proofs.lemmas.List.Folds.{list_all-append}
@@ -11,7 +11,7 @@ use Rattle.qc_catalogue.specs.declared.catalogue.Catalogue.{Catalogue as Catalog
 use Rattle.qc_catalogue.specs.Orderly.{is_orderly}
 use Rattle.qc_recorder.specs.Fits.{recording_fits}
 use Rattle.qc_machine.specs.Laws.{ReadsOrderly}
-use Rattle.qc_machine.specs.History.{Reader, History, no_facts, no_catalogue, with_fact, after_fact, after_facts, history_of, may_follow, is_later, all_follow, is_legal}
+use Rattle.qc_machine.specs.History.{Reader, History, no_facts, no_catalogue, after_fact, after_facts, history_of, may_follow, is_later, all_follow, is_legal}
 use Rattle.qc_machine.proofs.Bools.{and_assoc, and-both, and-left, and-right, and-true}
 
 pub after-push : (read : Reader) (h : History) (facts : List Fact) (fact : Fact) → after_facts read h (facts ++ fact ∷ []) ≡ after_fact read (after_facts read h facts) fact
@@ -56,26 +56,30 @@ send-follows read h id at r some next later fits there =
     (and-both (is_later at h) _ (and-both (leb 1 (length h.facts)) _ (le-leb 1 (length h.facts) some) (le-leb h.last at later))
     (and-both (eqb id (length h.messages + 1)) _ (eq-eqb id (length h.messages + 1) next) there))
 
--- each catalogue that comes into force is orderly
+-- what holds of each catalogue that is read holds of the one in force
 
-pub orderly-after : (read : Reader) → ReadsOrderly read → (h : History) (fact : Fact) → is_orderly h.catalogue ≡ true → is_orderly (after_fact read h fact).catalogue ≡ true
-orderly-after read reads h (Catalogue text) was = by_read (read text) refl
-  where
-    by_read : (o : Option Catalogued) → read text ≡ o → is_orderly (unwrap_or o no_catalogue) ≡ true
-    by_read None e = refl
-    by_read (Some c) e = reads text c e
-orderly-after read reads h (Sent id at r) was = was
-orderly-after read reads h (Played id attempt kind at) was = was
-orderly-after read reads h (Failed id attempt at) was = was
-orderly-after read reads h (Moved app queue at ids) was = was
-orderly-after read reads h (Switched app on at) was = was
+module _ (read : Reader) (p : Catalogued → Bool) (first : p no_catalogue ≡ true) (reads : (text : List ℕ) (c : Catalogued) → read text ≡ Some c → p c ≡ true) where
+  holds-after : (h : History) (fact : Fact) → p h.catalogue ≡ true → p (after_fact read h fact).catalogue ≡ true
+  holds-after h (Catalogue text) was = by_read (read text) refl
+    where
+      by_read : (o : Option Catalogued) → read text ≡ o → p (unwrap_or o no_catalogue) ≡ true
+      by_read None e = first
+      by_read (Some c) e = reads text c e
+  holds-after h (Sent id at r) was = was
+  holds-after h (Played id attempt kind at) was = was
+  holds-after h (Failed id attempt at) was = was
+  holds-after h (Moved app queue at ids) was = was
+  holds-after h (Switched app on at) was = was
 
-pub orderly-facts : (read : Reader) → ReadsOrderly read → (h : History) (facts : List Fact) → is_orderly h.catalogue ≡ true → is_orderly (after_facts read h facts).catalogue ≡ true
-orderly-facts read reads h [] was = was
-orderly-facts read reads h (fact ∷ facts) was = orderly-facts read reads (after_fact read h fact) facts (orderly-after read reads h fact was)
+  holds-behind : (h : History) (facts : List Fact) → p h.catalogue ≡ true → p (after_facts read h facts).catalogue ≡ true
+  holds-behind h [] was = was
+  holds-behind h (fact ∷ facts) was = holds-behind (after_fact read h fact) facts (holds-after h fact was)
+
+  pub holds-in-force : (facts : List Fact) → p (history_of read facts).catalogue ≡ true
+  holds-in-force facts = holds-behind no_facts facts first
 
 pub orderly-history : (read : Reader) (facts : List Fact) → ReadsOrderly read → is_orderly (history_of read facts).catalogue ≡ true
-orderly-history read facts reads = orderly-facts read reads no_facts facts refl
+orderly-history read facts reads = holds-in-force read is_orderly refl reads facts
 
 pub limits-push : (facts : List Fact) (fact : Fact) → list_all is_fact facts ≡ true → is_fact fact ≡ true → list_all is_fact (facts ++ fact ∷ []) ≡ true
 limits-push facts fact all one = list_all-append is_fact facts (fact ∷ []) ∙ and-both (list_all is_fact facts) _ all (and-both (is_fact fact) true one refl)

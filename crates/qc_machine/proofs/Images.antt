@@ -1,5 +1,5 @@
 -- What images stand for.
-use Rattle.std.proofs.Common.{◌≡◌, ◌≤◌, ℕ, zero, suc, ◌+◌, List, [], ◌∷◌, ◌++◌, length, map, take, drop, Bool, true, false, if◌then◌else◌, refl, sym, ap, ◌∙◌, subst, arith}
+use Rattle.std.proofs.Common.{◌≡◌, ◌≤◌, ℕ, zero, suc, ◌+◌, List, [], ◌∷◌, length, take, drop, Bool, true, false, if◌then◌else◌, refl, sym, ap, ◌∙◌, subst, arith}
 use Rattle.std.proofs.lemmas.List.{length-map, length-drop}
 use Rattle.qc_base.specs.declared.fact.Fact.{Fact}
 use Rattle.qc_site.specs.Image.{Image, with_bytes}
@@ -11,7 +11,7 @@ use Rattle.qc_frame.proofs.Chained.{same_joined}
 use Rattle.qc_journal.specs.History.{SpellsHistory, fact_payload, journal_header}
 use Rattle.qc_machine.specs.History.{Reader, by_text}
 use Rattle.qc_machine.specs.State.{State}
-use Rattle.qc_machine.specs.Sites.{StandsFor, IsSiteOf, Stays, SameSite, LeavesSame, LeavesOneOf, log_header}
+use Rattle.qc_machine.specs.Sites.{StandsFor, IsSiteOf, Stays, SameSite, LeavesOneOf, log_header}
 
 -- the same bytes of both logs stand for the same history
 pub stands-here : (read : Reader) (d c : Image) (facts : List Fact) → c.journal ≡ d.journal → c.crm_log ≡ d.crm_log → StandsFor read d facts → StandsFor read c facts

@@ -1,7 +1,8 @@
 -- What each legal history keeps.
 use Rattle.std.proofs.Common.{◌≡◌, ◌∙◌, ℕ, ◌+◌, ◌≤◌, ◌==◌, leb, nat_lt, List, [], ◌∷◌, ◌++◌, All, Bool, true, false, not, cond, ◌&&◌, ◌||◌, length, map, count_by, refl, sym, ap, subst, arith, true≢false, Option, Some, None, ne_eqb, eq-eqb, eqb-true, leb-true, le-leb, unwrap_or}
 use Rattle.std.specs.Option.{option_map_or}
-use Rattle.std.proofs.lemmas.Bool.{and_parts, and_from, ltb-true}
+use Rattle.std.specs.List.{list_any, list_all}
+use Rattle.std.proofs.lemmas.Bool.{and_parts, and_from, eqb-false, ltb-true}
 use Rattle.std.proofs.lemmas.List.{length-map, length_push, nil_from_length}
 use Rattle.std.proofs.lemmas.List.Elements.{All-nil, All-head, All-tail, All-map, All-push, All-weaker}
 use Rattle.std.proofs.lemmas.List.Sums.{count_by-le-length}
@@ -12,20 +13,22 @@ use Rattle.qc_base.specs.declared.fact.Place.{Place}
 use Rattle.qc_base.specs.declared.fact.Place.TheVariants.{Queue, Dead, Consumed}
 use Rattle.qc_base.specs.declared.message.Message.{Message}
 use Rattle.qc_base.specs.declared.recording.Recording.{Recording}
-use Rattle.qc_base.specs.Messages.{message_of, next_place, after_consumed, is_consumed, delay}
+use Rattle.qc_base.specs.Messages.{message_of, next_place, after_consumed, is_consumed, delay, moved_place}
 use Rattle.qc_base.specs.Moments.{due_at}
+use Rattle.qc_base.specs.Names.{is_name}
 use Rattle.qc_base.specs.Spelling.{is_moment, is_attempt, is_id, is_fact}
 use Rattle.qc_catalogue.specs.declared.catalogue.Catalogue.{Catalogue}
 use Rattle.qc_listener.specs.Choice.{is_due}
 use Rattle.qc_store.proofs.Listings.{count-cons, count_map}
 use Rattle.qc_store.proofs.Tallying.{one_if}
-use Rattle.qc_machine.specs.History.{Reader, History, names_exception, no_catalogue, no_facts, after_fact, after_facts, history_of, may_end_on, may_follow, all_follow, is_legal, is_later}
+use Rattle.qc_machine.specs.History.{Reader, History, names_exception, no_catalogue, no_facts, after_fact, after_facts, history_of, may_end_on, is_movable, are_distinct, may_follow, all_follow, is_legal, is_later}
 use Rattle.qc_machine.specs.Laws.{IsSettled}
 use Rattle.qc_machine.specs.Once.{is_send, is_played}
 use Rattle.qc_machine.specs.Orderly.{IsNumberedFrom, is_place, IsQueued, IsMessageOf, is_consumed_as, IsOrderly}
 use Rattle.qc_machine.specs.State.{State}
 use Rattle.qc_machine.proofs.Counts.{count-append, count-same}
 use Rattle.qc_machine.proofs.Histories.{legal-all}
+use Rattle.qc_machine.proofs.Moved.{moves, moves-id, moved-unspent, was-unspent}
 use Rattle.qc_machine.proofs.Numbered.{has_id, found-is, numbered-map, numbered-push, each-found, found-once}
 
 -- places stay within their range
@@ -224,6 +227,35 @@ orderly-failed read h id attempt at o e =
           (All-weaker (IsMessageOf h.catalogue) (λ (x : Message). is_consumed_as n (f x) ≡ is_consumed_as n x) (λ x is. still-spent n x (x.id == id) (to x) (next-unspent x.place x.final_class at)) h.messages o.messages));
     }
 
+moved-placed : (final : Bool) (queue at : ℕ) → queue ≤ 6 → is_moment at ≡ true → is_place final (moved_place queue at) ≡ true
+moved-placed final queue at few soon = by (queue == 6) refl
+  where
+    by : (b : Bool) → (queue == 6) ≡ b → is_place final (cond b Dead (Queue queue 0 at)) ≡ true
+    by true e = refl
+    by false e = waits final queue 0 at (omega (arith, few, eqb-false queue 6 e)) (omega arith) (leb-true _ _ soon)
+
+-- as many are consumed where none of those that are moved was
+moved-spent : (n : ℕ) (m : Message) (b : Bool) (queue at : ℕ) → (b ≡ true → is_consumed m.place ≡ false) → is_consumed_as n (cond b (record m { place = moved_place queue at }) m) ≡ is_consumed_as n m
+moved-spent n m true queue at h = ap (λ c. (m.id == n) && c) (moved-unspent queue at ∙ sym (h refl))
+moved-spent n m false queue at h = refl
+
+orderly-moved : (read : Reader) (h : History) (app : List ℕ) (queue at : ℕ) (ids : List ℕ) → IsOrderly h → may_follow read h (Moved app queue at ids) ≡ true → IsOrderly (after_fact read h (Moved app queue at ids))
+orderly-moved read h app queue at ids o e =
+    let parts = and_parts (is_fact (Moved app queue at ids)) _ e in
+    let limits = and_parts (leb queue 6) _ (and_parts (is_name app) _ parts.0).1 in
+    let soon = (and_parts (is_moment at) _ limits.1).0 in
+    let all : list_all (is_movable app h.messages) ids ≡ true = (and_parts (are_distinct ids) _ (and_parts (is_later at h) _ parts.1).1).1 in
+    let f : Message → Message = moves ids queue at in
+    record {
+      numbered = numbered-map f (moves-id ids queue at) 1 h.messages o.numbered;
+      sent = length-map h.messages f ∙ o.sent ∙ sym (other is_send h.facts (Moved app queue at ids) refl);
+      messages = All-map (IsMessageOf h.catalogue) f h.messages (All-weaker (IsMessageOf h.catalogue) (λ (x : Message). IsMessageOf h.catalogue (f x))
+          (λ x is. placed h.catalogue x (list_any (λ id. id == x.id) ids) (moved_place queue at) (moved-placed x.final_class queue at (leb-true _ _ limits.0) soon) is) h.messages o.messages);
+      played = λ n. other (is_played n) h.facts (Moved app queue at ids) refl ∙ o.played n ∙ sym (count_map (is_consumed_as n) f h.messages ∙ count-same (λ (x : Message). is_consumed_as n (f x)) (is_consumed_as n) h.messages
+          (All-weaker (λ (x : Message). message_of x.id h.messages ≡ Some x) (λ (x : Message). is_consumed_as n (f x) ≡ is_consumed_as n x)
+          (λ x found. moved-spent n x (list_any (λ id. id == x.id) ids) queue at (λ there. was-unspent h app ids x all found there)) h.messages (each-found 1 h.messages o.numbered)));
+    }
+
 -- a catalogue comes first, where there are no messages
 orderly-in_force : (read : Reader) (h : History) (text : List ℕ) → IsOrderly h → may_follow read h (InForce text) ≡ true → IsOrderly (after_fact read h (InForce text))
 orderly-in_force read h text o e =
@@ -243,7 +275,7 @@ orderly-step read h (InForce text) o e = orderly-in_force read h text o e
 orderly-step read h (Sent id at r) o e = orderly-sent read h id at r o e
 orderly-step read h (Played id attempt kind at) o e = orderly-played read h id attempt kind at o e
 orderly-step read h (Failed id attempt at) o e = orderly-failed read h id attempt at o e
-orderly-step read h (Moved app queue at ids) o e = absurd (true≢false (sym (and_parts (is_fact (Moved app queue at ids)) _ e).1))
+orderly-step read h (Moved app queue at ids) o e = orderly-moved read h app queue at ids o e
 orderly-step read h (Switched app on at) o e = record {
   numbered = o.numbered;
   sent = o.sent ∙ sym (other is_send h.facts (Switched app on at) refl);

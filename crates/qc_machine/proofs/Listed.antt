@@ -66,7 +66,7 @@ apart (m ∷ ms) up =
 
 -- one listing
 
-listing-count : (p : ℕ → Bool) (app : List ℕ) (queue : ℕ) (ms : List Message) → IdsRise ms
+pub listing-count : (p : ℕ → Bool) (app : List ℕ) (queue : ℕ) (ms : List Message) → IdsRise ms
     → count_by p (map (λ (w : Waiting). w.id) (listing app queue ms)) ≡ count_by (λ (m : Message). bytes_eq m.recording.app app && (in_queue queue m.place && p m.id)) ms
 listing-count p app queue ms up =
     let own : Message → Bool = λ m. bytes_eq m.recording.app app in

@@ -1,5 +1,5 @@
 -- The slots of players, and what is asked of all that is held.
-use Rattle.std.proofs.Common.{◌≡◌, ◌∙◌, ◌⊎◌, inl, inr, ⊎_elim, ℕ, ◌-◌, ◌<◌, ◌==◌, max, zero, suc, List, [], ◌∷◌, ◌++◌, Bool, true, false, ◌||◌, length, map, filter_map, slice_get, slice_set, refl, sym, ap, arith, Option, Some, None, ne_eqb}
+use Rattle.std.proofs.Common.{◌≡◌, ◌∙◌, ◌⊎◌, inl, inr, ⊎_elim, ℕ, ◌<◌, ◌==◌, max, zero, suc, List, [], ◌∷◌, ◌++◌, Bool, false, ◌||◌, length, map, filter_map, slice_get, slice_set, refl, sym, ap, arith, Option, Some, None, ne_eqb}
 use Rattle.std.specs.List.{list_any}
 use Rattle.std.proofs.lemmas.Bool.{or_parts, or_from}
 use Rattle.qc_base.specs.declared.recording.Row.{Row}

@@ -1,15 +1,14 @@
 -- What the clients' recorders hold.
-use Rattle.std.proofs.Common.{◌≡◌, ◌∙◌, ◌⊎◌, inl, inr, ⊎_elim, ℕ, ◌-◌, ◌≤◌, zero, suc, List, [], ◌∷◌, Bool, true, false, length, refl, sym, ap, subst, slice_get, slice_set, replicate, arith, Option, Some, None, Ok, Err}
+use Rattle.std.proofs.Common.{◌≡◌, ◌∙◌, ◌⊎◌, inl, inr, ⊎_elim, ℕ, ◌-◌, ◌≤◌, zero, suc, List, [], ◌∷◌, true, length, refl, sym, ap, slice_get, slice_set, replicate, arith, Option, Some, None, Ok, Err}
 use Rattle.std.specs.declared.result.Result.{Result}
 use Rattle.qc_base.specs.declared.recording.Recording.{Recording}
-use Rattle.qc_protocol.specs.declared.order.RawCall.{RawCall}
 use Rattle.qc_protocol.specs.declared.reply.Refusal.{Refusal}
 use Rattle.qc_catalogue.specs.declared.catalogue.Catalogue.{Catalogue}
 use Rattle.qc_catalogue.specs.Orderly.{is_orderly}
 use Rattle.qc_catalogue.specs.Catalogue.{catalogue_of}
 use Rattle.qc_catalogue.specs.declared.error.CatalogueError.{CatalogueError}
 use Rattle.qc_catalogue.proofs.Orderly.{orderly}
-use Rattle.qc_recorder.specs.Recording.{called, recorded, IsHeld}
+use Rattle.qc_recorder.specs.Recording.{IsHeld}
 use Rattle.qc_machine.specs.History.{by_text, if_ok}
 use Rattle.qc_machine.specs.Laws.{AreRecorded, ReadsOrderly}
 use Rattle.qc_machine.specs.Recorded.{if_called, if_recorded}

@@ -1,26 +1,26 @@
 -- An order that is refused by a rule of its own isn't refused as a line.
-use Rattle.std.proofs.Common.{◌≡◌, ◌∙◌, ℕ, ◌+◌, leb, ltb, List, [], ◌∷◌, ◌++◌, Bool, true, false, cond, length, map, find, refl, sym, ap, subst, Option, Some, None, option_map, option_and_then, Ok, Err}
+use Rattle.std.proofs.Common.{◌≡◌, ◌∙◌, ℕ, ◌+◌, leb, ltb, List, [], ◌∷◌, ◌++◌, Bool, true, false, not, cond, length, refl, sym, ap, Option, Some, None, option_map, Ok, Err}
 use Rattle.std.specs.declared.result.Result.{Result}
 use Rattle.std.specs.Option.{ok_or}
-use Rattle.qc_base.specs.declared.recording.Arg.{Arg}
 use Rattle.qc_base.specs.declared.recording.Call.{Call}
 use Rattle.qc_base.specs.declared.recording.Recording.{Recording}
-use Rattle.qc_base.specs.Spelling.{spelled_recording}
+use Rattle.qc_base.specs.Spelling.{is_between, spelled_recording}
 use Rattle.qc_protocol.specs.declared.order.RawArg.{RawArg}
 use Rattle.qc_protocol.specs.declared.order.RawCall.{RawCall}
 use Rattle.qc_protocol.specs.declared.reply.Refusal.{Refusal}
-use Rattle.qc_protocol.specs.declared.reply.Refusal.TheVariants.{NoSuchSlot, SlotBusy, SlotIdle, UnknownApp, UnknownComponent, UnknownMethod, BadArguments, TooManyCalls, TooLong}
+use Rattle.qc_protocol.specs.declared.reply.Refusal.TheVariants.{NoSuchSlot, SlotBusy, SlotIdle, UnknownApp, UnknownComponent, UnknownMethod, BadArguments, TooManyCalls, TooLong, UnknownQueue, BadBatch}
+use Rattle.qc_protocol.specs.declared.reply.Side.TheVariants.{From, To}
 use Rattle.qc_catalogue.specs.Lookup.{app_named, component_named, method_of}
 use Rattle.qc_catalogue.specs.declared.catalogue.App.{App}
 use Rattle.qc_catalogue.specs.declared.catalogue.Catalogue.{Catalogue}
-use Rattle.qc_catalogue.specs.declared.catalogue.Component.{Component}
 use Rattle.qc_catalogue.specs.declared.catalogue.Method.{Method}
 use Rattle.qc_script.specs.declared.names.Param.{Param}
 use Rattle.qc_recorder.specs.Fits.{and_then, component_of_app, component_in, argument, arguments, call_by, call_taken}
-use Rattle.qc_recorder.specs.Recording.{no_calls, begun, with_call, if_short, if_few, add_call, add_calls, methods_for, called, recorded}
+use Rattle.qc_recorder.specs.Recording.{no_calls, begun, with_call, if_few, add_call, add_calls, methods_for, called, recorded}
+use Rattle.qc_machine.specs.Moving.{Route, queue_named, queue_number, route, route_from}
 use Rattle.qc_machine.specs.Recorded.{if_refused}
 use Rattle.qc_machine.specs.Refuse.{refuse_if, first_some, is_of_line}
-use Rattle.qc_machine.specs.Slots.{is_slot, out_of_slots, client_busy, idle}
+use Rattle.qc_machine.specs.Slots.{out_of_slots, client_busy, idle}
 use Rattle.qc_machine.specs.State.{in_slot}
 
 -- the first of some refusals and more
@@ -147,3 +147,15 @@ called-order c r call = if-order (called c r call) (add-order (methods_for c r) 
 pub recorded-order : (c : Catalogue) (app component : List ℕ) (calls : List RawCall) → IsOrders (if_refused (recorded c app component calls))
 recorded-order c app component calls =
     if-order (recorded c app component calls) (then-order (begun c app component) (λ r. add_calls (methods_for c r) calls r) (begun-refuses c app component) (λ r. adds-order (methods_for c r) calls r))
+
+-- refusals of moves
+
+pub route-order : (c : Catalogue) (from to : List ℕ) → IsOrders (if_refused (route c from to))
+route-order c from to = by_route (route c from to) (then-order (ok_or (queue_named from c.apps) (UnknownQueue From)) (route_from to) (or-order (queue_named from c.apps) (UnknownQueue From) refl) (λ source. or-order (option_map (λ q. record { source = source; to = q }) (queue_number source.app to)) (UnknownQueue To) refl))
+  where
+    by_route : (answer : Result Route Refusal) → RefusesOrders answer → IsOrders (if_refused answer)
+    by_route (Ok r) is x e = cc
+    by_route (Err refusal) is x e = is x (let same : refusal ≡ x = cc in ap (λ (y : Refusal). Err y) same)
+
+pub batch-order : (batch : ℕ) → IsOrders (refuse_if (not (is_between 1 1000 batch)) BadBatch)
+batch-order batch = refuse-order _ BadBatch refl

@@ -1,5 +1,5 @@
 -- What holds of every step, by the order.
-use Rattle.std.proofs.Common.{◌≡◌, ◌≤◌, ℕ, List, [], ◌∷◌, ◌++◌, Bool, true, false, cond, refl, sym, ap, subst, ◌⊎◌, ⊎_elim, arith, append-nil, Option, Some, None, Ok, Err}
+use Rattle.std.proofs.Common.{◌≡◌, ◌≤◌, ℕ, List, [], ◌∷◌, ◌++◌, Bool, true, false, cond, refl, sym, ap, subst, ◌∙◌, ⊎_elim, arith, append-nil, append_assoc, Option, Some, None, Ok, Err}
 use Rattle.std.specs.declared.result.Result.{Result}
 use Rattle.qc_base.specs.declared.fact.Fact.{Fact}
 use Rattle.qc_protocol.specs.declared.order.Act.{Act}
@@ -19,7 +19,8 @@ use Rattle.qc_machine.specs.Refuse.{is_of_line}
 use Rattle.qc_machine.specs.Sending.{fact_sent, send_step}
 use Rattle.qc_machine.specs.Attempts.{chosen_message, parts_held}
 use Rattle.qc_machine.specs.Playing.{after_end, after_work, end_in, end_reply, ended_attempt, fact_of_end, on_held, phase_in, play_reply, play_step, why_ended, work_in, work_on, work_reply}
-use Rattle.qc_machine.specs.State.{State, HeldAttempt, at_moment, in_slot, with_client, with_player}
+use Rattle.qc_machine.specs.Moving.{Route, route, facts_moved, with_new_facts, behind_each, move_step}
+use Rattle.qc_machine.specs.State.{State, HeldAttempt, at_moment, in_slot, with_client, with_new_fact, with_player}
 use Rattle.qc_machine.specs.Switching.{fact_switched}
 use Rattle.qc_machine.specs.Taking.{new_attempt, take_step}
 use Rattle.qc_machine.specs.Step.{step, step_of, answer, refusal}
@@ -81,6 +82,16 @@ on-held : (s : State) (go : HeldAttempt → Step) (o : Option HeldAttempt) → (
 on-held s go None each = stays s
 on-held s go (Some a) each = each a
 
+-- behind facts more
+
+facts-on : (facts : List Fact) (s : State) → Later s (with_new_facts facts s)
+facts-on [] s = stays s
+facts-on (fact ∷ facts) s = let on = facts-on facts (with_new_fact fact s) in record { last = omega (arith, on.last); more = fact ∷ on.more; facts = on.facts ∙ append_assoc s.history.facts (fact ∷ []) on.more }
+
+moves : (s : State) (batch : ℕ) (o : Result Route Refusal) → Later s (move_step s batch o).state
+moves s batch (Ok r) = facts-on (facts_moved s batch r) s
+moves s batch (Err refusal) = stays s
+
 carried-out : (s : State) (act : Act) → Later s (step_of s act).state
 carried-out s (Send app component calls) = sends s (recording_sent s (Send app component calls))
 carried-out s (Queues app) = stays s
@@ -93,7 +104,7 @@ carried-out s (Work n) = on-held s (work_in s n) (in_slot n s.players) (λ a. wi
 carried-out s (End n) = on-held s (end_in s n) (in_slot n s.players) (ends-on s n)
 carried-out s (Phase n) = on-held s (phase_in s n) (in_slot n s.players) (λ a. with-held s n None)
 carried-out s (Play n app) = plays s n (chosen_message s app)
-carried-out s (Move from to batch) = stays s
+carried-out s (Move from to batch) = moves s batch (route s.history.catalogue from to)
 carried-out s (Switch app on) = record { last = omega arith; more = fact_switched s app on ∷ []; facts = refl }
 carried-out s (Table name) = stays s
 carried-out s (Outside name) = stays s
@@ -144,6 +155,10 @@ held-replies : (s : State) (go : HeldAttempt → Step) (o : Option HeldAttempt) 
 held-replies s go None each r e = cc
 held-replies s go (Some a) each r e = each a r e
 
+move-replies : (s : State) (batch : ℕ) (o : Result Route Refusal) (r : Refusal) → (move_step s batch o).reply ≡ Refused r → ⊥
+move-replies s batch (Ok route) r e = cc
+move-replies s batch (Err refusal) r e = cc
+
 no-refusal : (s : State) (act : Act) (r : Refusal) → (step_of s act).reply ≡ Refused r → ⊥
 no-refusal s (Send app component calls) r e = send-replies s (recording_sent s (Send app component calls)) r e
 no-refusal s (Queues app) r e = cc
@@ -156,7 +171,7 @@ no-refusal s (Work n) r e = held-replies s (work_in s n) (in_slot n s.players) (
 no-refusal s (End n) r e = held-replies s (end_in s n) (in_slot n s.players) (λ a r f. end-replies a.attempt (why_ended s.history.catalogue a) r f) r e
 no-refusal s (Phase n) r e = held-replies s (phase_in s n) (in_slot n s.players) (λ a r f. cc) r e
 no-refusal s (Play n app) r e = play-replies s n (chosen_message s app) r e
-no-refusal s (Move from to batch) r e = cc
+no-refusal s (Move from to batch) r e = move-replies s batch (route s.history.catalogue from to) r e
 no-refusal s (Switch app on) r e = cc
 no-refusal s (Table name) r e = cc
 no-refusal s (Outside name) r e = cc
@@ -189,15 +204,38 @@ step-moments s order = (goes-on order.at s order.act (refusal (at_moment order.a
 same-on : (s : State) → GoesOn s s
 same-on s = record { more = []; facts = sym (append-nil s.history.facts) }
 
--- today no step has a state in its midst but its ends
-at-ends : (s x : State) (t : Step) → t.through ≡ [] → GoesOn s t.state → IsBetween s t x → GoesOn s x × GoesOn x t.state
-at-ends s x t none on between = ⊎_elim (λ e. at-first e) (λ rest. ⊎_elim (λ a. absurd (subst (λ (l : List State). Among l x) none a)) (λ e. at-last e) rest) between
+-- a state in the midst of a step, where it has one
+abbrev InMidst : State → Step → State → Type 0
+InMidst s t x = Among t.through x → GoesOn s x × GoesOn x t.state
+
+at-ends : (s x : State) (t : Step) → InMidst s t x → GoesOn s t.state → IsBetween s t x → GoesOn s x × GoesOn x t.state
+at-ends s x t midst on between = ⊎_elim (λ e. at-first e) (λ rest. ⊎_elim (λ a. midst a) (λ e. at-last e) rest) between
   where
     at-first : x ≡ s → GoesOn s x × GoesOn x t.state
     at-first e = subst (λ (y : State). GoesOn s y × GoesOn y t.state) (sym e) (same-on s, on)
 
     at-last : x ≡ t.state → GoesOn s x × GoesOn x t.state
     at-last e = subst (λ (y : State). GoesOn s y × GoesOn y t.state) (sym e) (on, same-on t.state)
+
+none-midst : (s x : State) (t : Step) → t.through ≡ [] → InMidst s t x
+none-midst s x t none a = absurd (subst (λ (l : List State). Among l x) none a)
+
+-- behind each of the facts stand those before, and the others are yet to come
+facts-midst : (facts : List Fact) (s x : State) → Among (behind_each facts s) x → GoesOn s x × GoesOn x (with_new_facts facts s)
+facts-midst [] s x a = absurd a
+facts-midst (fact ∷ facts) s x a = ⊎_elim (λ e. here e) (λ later. behind (facts-midst facts (with_new_fact fact s) x later)) a
+  where
+    here : x ≡ with_new_fact fact s → GoesOn s x × GoesOn x (with_new_facts facts (with_new_fact fact s))
+    here e =
+        let on = facts-on facts (with_new_fact fact s) in
+        subst (λ (y : State). GoesOn s y × GoesOn y (with_new_facts facts (with_new_fact fact s))) (sym e) (record { more = fact ∷ []; facts = refl }, record { more = on.more; facts = on.facts })
+
+    behind : GoesOn (with_new_fact fact s) x × GoesOn x (with_new_facts facts (with_new_fact fact s)) → GoesOn s x × GoesOn x (with_new_facts facts (with_new_fact fact s))
+    behind on = let first = on.0 in (record { more = fact ∷ first.more; facts = first.facts ∙ append_assoc s.history.facts (fact ∷ []) first.more }, on.1)
+
+moved-midst : (s x : State) (batch : ℕ) (o : Result Route Refusal) → InMidst s (move_step s batch o) x
+moved-midst s x batch (Ok r) a = facts-midst (facts_moved s batch r) s x a
+moved-midst s x batch (Err refusal) a = absurd a
 
 sent-none : (s : State) (o : Option Recording) → (send_step s o).through ≡ []
 sent-none s None = refl
@@ -228,29 +266,30 @@ held-none : (s : State) (go : HeldAttempt → Step) (o : Option HeldAttempt) →
 held-none s go None each = refl
 held-none s go (Some a) each = each a
 
-through-none : (s : State) (act : Act) → (step_of s act).through ≡ []
-through-none s (Send app component calls) = sent-none s (recording_sent s (Send app component calls))
-through-none s (Queues app) = refl
-through-none s (OpenSlot n app component) = opened-none s n (begun s.history.catalogue app component)
-through-none s (CallSlot n call) = called-none s n (called_by s n call)
-through-none s (CommitSlot n) = sent-none (with_client n None s) (recording_sent s (CommitSlot n))
-through-none s (CancelSlot n) = cancelled-none s n (in_slot n s.clients)
-through-none s (Take n app) = taken-none s n (chosen_message s app)
-through-none s (Work n) = held-none s (work_in s n) (in_slot n s.players) (λ a. refl)
-through-none s (End n) = held-none s (end_in s n) (in_slot n s.players) (λ a. refl)
-through-none s (Phase n) = held-none s (phase_in s n) (in_slot n s.players) (λ a. refl)
-through-none s (Play n app) = played-none s n (chosen_message s app)
-through-none s (Move from to batch) = refl
-through-none s (Switch app on) = refl
-through-none s (Table name) = refl
-through-none s (Outside name) = refl
+in-midst : (s x : State) (act : Act) → InMidst s (step_of s act) x
+in-midst s x (Send app component calls) = none-midst s x (step_of s (Send app component calls)) (sent-none s (recording_sent s (Send app component calls)))
+in-midst s x (Queues app) = none-midst s x (step_of s (Queues app)) refl
+in-midst s x (OpenSlot n app component) = none-midst s x (step_of s (OpenSlot n app component)) (opened-none s n (begun s.history.catalogue app component))
+in-midst s x (CallSlot n call) = none-midst s x (step_of s (CallSlot n call)) (called-none s n (called_by s n call))
+in-midst s x (CommitSlot n) = none-midst s x (step_of s (CommitSlot n)) (sent-none (with_client n None s) (recording_sent s (CommitSlot n)))
+in-midst s x (CancelSlot n) = none-midst s x (step_of s (CancelSlot n)) (cancelled-none s n (in_slot n s.clients))
+in-midst s x (Take n app) = none-midst s x (step_of s (Take n app)) (taken-none s n (chosen_message s app))
+in-midst s x (Work n) = none-midst s x (step_of s (Work n)) (held-none s (work_in s n) (in_slot n s.players) (λ a. refl))
+in-midst s x (End n) = none-midst s x (step_of s (End n)) (held-none s (end_in s n) (in_slot n s.players) (λ a. refl))
+in-midst s x (Phase n) = none-midst s x (step_of s (Phase n)) (held-none s (phase_in s n) (in_slot n s.players) (λ a. refl))
+in-midst s x (Play n app) = none-midst s x (step_of s (Play n app)) (played-none s n (chosen_message s app))
+in-midst s x (Move from to batch) = moved-midst s x batch (route s.history.catalogue from to)
+in-midst s x (Switch app on) = none-midst s x (step_of s (Switch app on)) refl
+in-midst s x (Table name) = none-midst s x (step_of s (Table name)) refl
+in-midst s x (Outside name) = none-midst s x (step_of s (Outside name)) refl
 
-answer-none : (before s : State) (act : Act) (o : Option Refusal) → (answer before s act o).through ≡ []
-answer-none before s act None = through-none s act
-answer-none before s act (Some r) = refl
+-- facts of the state before, and of the one with the moment used, are the same
+answer-midst : (t : ℕ) (s x : State) (act : Act) (o : Option Refusal) → InMidst s (answer s (at_moment t s) act o) x
+answer-midst t s x act None a = let on = in-midst (at_moment t s) x act a in (record { more = on.0.more; facts = on.0.facts }, on.1)
+answer-midst t s x act (Some r) a = absurd a
 
 pub step-facts : (s x : State) (order : Order) → IsBetween s (step s order) x → GoesOn s x × GoesOn x (step s order).state
 unfolding step
 step-facts s x order between =
     let on = goes-on order.at s order.act (refusal (at_moment order.at s) order.act) in
-    at-ends s x (answer s (at_moment order.at s) order.act (refusal (at_moment order.at s) order.act)) (answer-none s (at_moment order.at s) order.act (refusal (at_moment order.at s) order.act)) (record { more = on.more; facts = on.facts }) between
+    at-ends s x (answer s (at_moment order.at s) order.act (refusal (at_moment order.at s) order.act)) (answer-midst order.at s x order.act (refusal (at_moment order.at s) order.act)) (record { more = on.more; facts = on.facts }) between

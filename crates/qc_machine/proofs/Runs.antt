@@ -1,9 +1,8 @@
 -- The calls of an attempt, as long as one is left and none failed.
-use Rattle.std.proofs.Common.{◌≡◌, ◌∙◌, ◌⊎◌, ⊎_elim, ℕ, ◌+◌, ◌≤◌, List, [], ◌∷◌, Bool, true, false, cond, length, refl, sym, ap, subst, arith}
+use Rattle.std.proofs.Common.{◌≡◌, ◌∙◌, ◌⊎◌, ⊎_elim, ℕ, ◌+◌, ◌≤◌, List, [], ◌∷◌, cond, length, refl, sym, ap, subst, arith}
 use Rattle.std.specs.Bool.{⊤}
 use Rattle.qc_base.specs.declared.log_line.Stage.{Stage}
 use Rattle.qc_base.specs.declared.log_line.Stage.TheVariants.{Calls, Ready, Failing, Commit, Abort}
-use Rattle.qc_base.specs.declared.message.Message.{Message}
 use Rattle.qc_txn.specs.Parts.{Part, parts_of}
 use Rattle.qc_machine.specs.Attempts.{parts_held}
 use Rattle.qc_machine.specs.History.{History}

@@ -1,25 +1,24 @@
 -- Steps keep histories legal.
-use Rattle.std.proofs.Common.{◌≡◌, ◌∙◌, ◌⊎◌, ◌≤◌, ◌<◌, ◌+◌, ◌-◌, ◌==◌, ℕ, List, [], ◌∷◌, ◌++◌, length, max, Bool, true, false, not, ◌&&◌, cond, leb, map, refl, sym, ap, subst, inl, inr, ⊎_elim, arith, Option, Some, None, option_map, option_and_then, is_none, is_some, Ok, Err}
+use Rattle.std.proofs.Common.{◌≡◌, ◌∙◌, ◌⊎◌, ◌≤◌, ◌<◌, ◌+◌, ◌-◌, ◌==◌, ℕ, List, [], ◌∷◌, length, Bool, true, false, not, ◌&&◌, cond, leb, map, refl, sym, ap, subst, inr, ⊎_elim, arith, Option, Some, None, option_map, option_and_then, is_none, is_some, Ok, Err}
 use Rattle.std.specs.declared.result.Result.{Result}
 use Rattle.std.specs.List.{list_all}
 use Rattle.std.specs.Str.{bytes_eq}
-use Rattle.std.proofs.lemmas.Bool.{and_parts, le-leb}
+use Rattle.std.proofs.lemmas.Bool.{and_parts, le-leb, leb-true}
 use Rattle.qc_base.specs.Names.{is_app_name, is_name}
 use Rattle.qc_base.specs.declared.fact.Fact.{Fact}
 use Rattle.qc_base.specs.declared.fact.Fact.TheVariants.{Sent, Played, Failed}
-use Rattle.qc_base.specs.declared.fact.Kind.TheVariants.{Normal}
 use Rattle.qc_base.specs.declared.log_line.Stage.{Stage}
 use Rattle.qc_base.specs.declared.log_line.Stage.TheVariants.{Calls, Ready, Failing, Commit, Abort}
 use Rattle.qc_base.specs.declared.log_line.Why.{Why}
 use Rattle.qc_base.specs.declared.message.Message.{Message}
 use Rattle.qc_base.specs.declared.recording.Recording.{Recording}
-use Rattle.qc_base.specs.Spelling.{is_attempt, is_fact, is_id, is_moment, is_recording}
+use Rattle.qc_base.specs.Spelling.{is_attempt, is_between, is_fact, is_id, is_moment, is_recording}
 use Rattle.qc_protocol.specs.declared.order.Act.{Act}
 use Rattle.qc_protocol.specs.declared.order.Act.TheVariants.{OpenSlot, CallSlot, CommitSlot, CancelSlot, Send, Take, Work, End, Phase, Play, Move, Switch, Queues, Table, Outside}
 use Rattle.qc_protocol.specs.declared.order.Order.{Order}
 use Rattle.qc_protocol.specs.declared.order.RawCall.{RawCall}
 use Rattle.qc_protocol.specs.declared.reply.Refusal.{Refusal}
-use Rattle.qc_protocol.specs.declared.reply.Refusal.TheVariants.{NotBuilt, WrongStage, UnknownApp, Full}
+use Rattle.qc_protocol.specs.declared.reply.Refusal.TheVariants.{BadBatch, NotBuilt, WrongStage, UnknownApp, Full}
 use Rattle.qc_catalogue.specs.declared.catalogue.App.{App}
 use Rattle.qc_catalogue.specs.declared.catalogue.Catalogue.{Catalogue}
 use Rattle.qc_catalogue.specs.Lookup.{app_named}
@@ -34,12 +33,13 @@ use Rattle.qc_recorder.proofs.Held.{begun-held, called-held, recorded-held, with
 use Rattle.qc_txn.specs.Parts.{parts_of}
 use Rattle.qc_listener.specs.Choice.{kind_at}
 use Rattle.qc_machine.specs.Attempts.{attempt_room, chosen_message, next_attempt, parts_held}
-use Rattle.qc_machine.specs.History.{Reader, History, no_facts, with_fact, after_fact, history_of, is_later, kind_eq, may_follow, is_legal}
+use Rattle.qc_machine.specs.History.{Reader, History, no_facts, with_fact, after_fact, is_later, may_follow}
 use Rattle.qc_machine.specs.Holding.{has_row, IsCalling, HasCome, IsHeldIn, AreApart, AreHeld, Holds}
-use Rattle.qc_machine.specs.Laws.{AreRecorded, IsInRange, IsSettled, ReadsOrderly}
+use Rattle.qc_machine.specs.Laws.{IsInRange, IsSettled, ReadsOrderly}
+use Rattle.qc_machine.specs.Moving.{Route, route, no_room_to_move, move_step}
 use Rattle.qc_machine.specs.Names.{app_unknown}
 use Rattle.qc_machine.specs.Playing.{after_end, after_work, end_in, ended_attempt, fact_of_end, on_held, phase_in, play_in, play_step, why_ended, work_in, work_on}
-use Rattle.qc_machine.specs.Recorded.{if_called, if_recorded}
+use Rattle.qc_machine.specs.Recorded.{if_called, if_recorded, if_refused}
 use Rattle.qc_machine.specs.Recording.{open_step, call_step, cancel_step}
 use Rattle.qc_machine.specs.Refuse.{first_some, is_of_line, refuse_if}
 use Rattle.qc_machine.specs.Rooms.{journal_full, log_full, no_number, room_for, take_full}
@@ -51,16 +51,18 @@ use Rattle.qc_machine.specs.Steps.{Step, IsBetween}
 use Rattle.qc_machine.specs.Switching.{fact_switched, switch_step}
 use Rattle.qc_machine.specs.Taking.{can_play, app_off, new_attempt, no_room_to_take, app_none_due, app_not_built, take_step}
 use Rattle.qc_machine.proofs.Beside.{held-aside}
-use Rattle.qc_machine.proofs.Bools.{and-both, and-right}
+use Rattle.qc_machine.proofs.Bools.{and-both}
 use Rattle.qc_machine.proofs.Calls.{IsOf, work-held}
 use Rattle.qc_machine.proofs.Ended.{HasEnded, end-aside, end-follows, ended-held, ends-open}
 use Rattle.qc_machine.proofs.Held.{held-freed, held-later, held-on, held-sent, held-set, held-switched}
+use Rattle.qc_machine.proofs.Following.{fact-settled}
 use Rattle.qc_machine.proofs.Histories.{after-push, legal-push, legal-some, send-follows, orderly-history}
 use Rattle.qc_machine.proofs.Keeping.{message-kept, settled-orderly}
+use Rattle.qc_machine.proofs.Moves.{move-settled, route-is}
 use Rattle.qc_machine.proofs.Recorders.{in-list, set-recorded, some-calls, recorded-calls}
 use Rattle.qc_machine.proofs.Refusals.{none-first, not-refused}
 use Rattle.qc_machine.proofs.Runs.{IsOnTheWay, all-run}
-use Rattle.qc_machine.proofs.Steps.{refusal-take, refusal-play, refusal-work, refusal-end, refusal-switch}
+use Rattle.qc_machine.proofs.Steps.{refusal-take, refusal-play, refusal-work, refusal-end, refusal-move, refusal-switch}
 use Rattle.qc_machine.proofs.Taken.{chosen-is, taken-held}
 
 -- a sent message is a fact within its limits
@@ -173,22 +175,6 @@ module _ (read : Reader) (s : State) (settled : IsSettled read s) (good : is_ord
           let some = recorded-calls (recorded s.history.catalogue app component raw) r e in
           can-be-sent s r soon few (recorded-held s.history.catalogue app component raw r good some.0) some.1
 
--- The state behind a fact more, of an attempt or a switch.
-fact-settled : (read : Reader) (s t : State) (f : Fact) → IsSettled read s → t.history ≡ with_fact f s.history → t.last ≡ s.last → t.clients ≡ s.clients
-    → ((h : History) → after_fact read h f ≡ with_fact f h) → (with_fact f s.history).last ≡ s.last → (with_fact f s.history).catalogue ≡ s.history.catalogue
-    → may_follow read s.history f ≡ true → AreHeld t → IsSettled read t
-fact-settled read s t f settled history last clients plain moment same follows held = record {
-  history = subst (λ (h : History). h ≡ history_of read h.facts) (sym history) now;
-  legal = subst (λ (h : History). is_legal read h.facts ≡ true) (sym history) (legal-push read s.history.facts f settled.legal (subst (λ (h : History). may_follow read h f ≡ true) settled.history follows));
-  not_ahead = omega (arith, moment, ap (λ (h : History). h.last) history, last);
-  in_time = omega (arith, last, settled.in_time);
-  recorded = subst (λ (c : Catalogue). AreRecorded c t.clients) (sym (ap (λ (h : History). h.catalogue) history ∙ same)) (subst (AreRecorded s.history.catalogue) (sym clients) settled.recorded);
-  held = held;
-}
-  where
-    now : with_fact f s.history ≡ history_of read (s.history.facts ++ f ∷ [])
-    now = ap (with_fact f) settled.history ∙ sym (after-push read no_facts s.history.facts f ∙ plain (history_of read s.history.facts))
-
 -- the fact of an end changes nothing but what it settles
 
 plain-end : (read : Reader) (why : Option Why) (last : ℕ) (a : HeldAttempt) (h : History) → after_fact read h (fact_of_end last a why) ≡ with_fact (fact_of_end last a why) h
@@ -237,6 +223,9 @@ serves-is serves s n a e free =
 stage-free : (a b c : Option Refusal) → first_some (a ∷ b ∷ c ∷ []) ≡ None → c ≡ None
 stage-free a b c free = (none-first c [] (none-first b (c ∷ []) (none-first a (b ∷ c ∷ []) free).1).1).0
 
+move-free : (a b c : Option Refusal) → first_some (a ∷ b ∷ c ∷ []) ≡ None → b ≡ None
+move-free a b c free = (none-first b (c ∷ []) (none-first a (b ∷ c ∷ []) free).1).0
+
 take-free : (a b c d e p q : Option Refusal) → first_some (a ∷ b ∷ c ∷ d ∷ e ∷ p ∷ q ∷ []) ≡ None → (p ≡ None) × (q ≡ None)
 take-free a b c d e p q free =
     let first = none-first a (b ∷ c ∷ d ∷ e ∷ p ∷ q ∷ []) free in
@@ -246,7 +235,7 @@ take-free a b c d e p q free =
     let rest = none-first p (q ∷ []) (none-first e (p ∷ q ∷ []) fourth.1).1 in
     (rest.0, (none-first q [] rest.1).0)
 
-orderly-apps : (c : Catalogue) → is_orderly c ≡ true → list_all is_app c.apps ≡ true
+pub orderly-apps : (c : Catalogue) → is_orderly c ≡ true → list_all is_app c.apps ≡ true
 orderly-apps c orderly =
     let outside = list_all (λ (r : Resource). keys_apart r.rows) c.resources in
     let inside = list_all (λ (t : Opening). keys_apart t.rows) c.tables in
@@ -359,7 +348,7 @@ module _ (read : Reader) (s : State) (settled : IsSettled read s) (x : State) wh
       let full : take_full s m ≡ None = sym (ap (λ o. option_and_then (take_full s) o) e) ∙ room in
       let number = none-first (no_number s) [] (none-first (log_full s (room_for s m)) (no_number s ∷ []) (none-first (journal_full s attempt_room) (log_full s (room_for s m) ∷ no_number s ∷ []) full).1).1 in
       taken-held s m (chosen-is s app m (settled-orderly read s settled) e)
-      (and-right (kind_eq (kind_at m.place) Normal) _ can)
+      can
       (not-not _ (not-refused (not (is_attempt (next_attempt s))) (Full s.journal.size) number.0))
 
   takes : (n : ℕ) (app : List ℕ) → app_not_built s app ≡ None → no_room_to_take s app ≡ None → IsBetween s (take_step s n (chosen_message s app)) x → IsSettled read x
@@ -435,6 +424,18 @@ module _ (read : Reader) (s : State) (settled : IsSettled read s) (x : State) wh
       one-end read s (with_new_fact (fact_switched s app on) s) x settled
       (switch-settled read s app on settled good (some-there (app_named app s.history.catalogue.apps) (not-refused (is_none (app_named app s.history.catalogue.apps)) UnknownApp known))) between
 
+  moves : (batch : ℕ) (from to : List ℕ) → is_orderly s.history.catalogue ≡ true → refuse_if (not (is_between 1 1000 batch)) BadBatch ≡ None → IsBetween s (move_step s batch (route s.history.catalogue from to)) x → IsSettled read x
+  moves batch from to good batched between = by (route s.history.catalogue from to) refl between
+    where
+      size : (leb 1 batch ≡ true) × (leb batch 1000 ≡ true)
+      size = and_parts (leb 1 batch) _ (not-not (is_between 1 1000 batch) (not-refused (not (is_between 1 1000 batch)) BadBatch batched))
+
+      by : (o : Result Route Refusal) → route s.history.catalogue from to ≡ o → IsBetween s (move_step s batch o) x → IsSettled read x
+      by (Err refusal) e between = still read s x settled between
+      by (Ok r) e between =
+          let all = move-settled read s batch r settled (route-is s.history.catalogue from to r (orderly-apps s.history.catalogue good) e) (leb-true 1 batch size.0) (leb-true batch 1000 size.1) in
+          ⊎_elim (λ e. subst (λ (y : State). IsSettled read y) (sym e) settled) (λ rest. ⊎_elim (λ a. all.each x a) (λ e. subst (λ (y : State). IsSettled read y) (sym e) all.last) rest) between
+
 -- the orders that may add a message
 abbrev pub Sends : Act → Type 0
 Sends (Send app component calls) = Unit {0}
@@ -453,7 +454,7 @@ carried-out read s (Work n) free few settled good x between = works read s settl
 carried-out read s (End n) free few settled good x between = ends read s settled x n (stage-free (out_of_slots n) (idle s.players n) (stage_unless can_end s.players n) (sym (refusal-end s n) ∙ free)) between
 carried-out read s (Phase n) free few settled good x between = phases read s settled x n between
 carried-out read s (Play n app) free few settled good x between = let r = take-free (out_of_slots n) (player_busy s.players n) (app_unknown s.history.catalogue app) (app_off s app) (app_none_due s app) (app_not_built s app) (no_room_to_take s app) (sym (refusal-play s n app) ∙ free) in plays read s settled x n app r.0 r.1 between
-carried-out read s (Move from to batch) free few settled good x between = still read s x settled between
+carried-out read s (Move from to batch) free few settled good x between = let r = move-free (if_refused (route s.history.catalogue from to)) (refuse_if (not (is_between 1 1000 batch)) BadBatch) (no_room_to_move s batch (route s.history.catalogue from to)) (sym (refusal-move s from to batch) ∙ free) in moves read s settled x batch from to good r between
 carried-out read s (Switch app on) free few settled good x between = switches read s settled x app on good (none-first (app_unknown s.history.catalogue app) (journal_full s (fact_room (fact_switched s app on)) ∷ []) (sym (refusal-switch s app on) ∙ free)).0 between
 carried-out read s (Table name) free few settled good x between = still read s x settled between
 carried-out read s (Outside name) free few settled good x between = still read s x settled between

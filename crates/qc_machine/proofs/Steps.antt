@@ -1,17 +1,17 @@
 -- What the step of each order comes to.
-use Rattle.std.proofs.Common.{◌≡◌, ℕ, List, [], ◌∷◌, Bool, true, false, not, refl, ap, ◌∙◌, cond, Option, Some, None, option_and_then}
-use Rattle.std.specs.Bool.{⊤}
+use Rattle.std.proofs.Common.{◌≡◌, ℕ, List, [], ◌∷◌, Bool, false, not, refl, ap, ◌∙◌, cond, Option, Some, None, option_and_then}
+use Rattle.qc_base.specs.Spelling.{is_between}
 use Rattle.qc_protocol.specs.declared.order.Act.{Act}
 use Rattle.qc_protocol.specs.declared.order.Act.TheVariants.{OpenSlot, CallSlot, CommitSlot, CancelSlot, Send, Take, Work, End, Phase, Play, Move, Switch, Queues, Table, Outside}
-use Rattle.qc_protocol.specs.declared.order.Order.{Order}
 use Rattle.qc_protocol.specs.declared.order.RawCall.{RawCall}
 use Rattle.qc_protocol.specs.declared.reply.Refusal.{Refusal}
-use Rattle.qc_protocol.specs.declared.reply.Refusal.TheVariants.{NotBuilt}
+use Rattle.qc_protocol.specs.declared.reply.Refusal.TheVariants.{BadBatch}
 use Rattle.qc_protocol.specs.declared.reply.Reply.TheVariants.{Refused}
 use Rattle.qc_recorder.specs.Recording.{begun, recorded}
+use Rattle.qc_machine.specs.Moving.{route, no_room_to_move}
 use Rattle.qc_machine.specs.Names.{app_unknown, resource_unknown, table_unknown}
 use Rattle.qc_machine.specs.Recorded.{called_by, if_called, if_recorded, if_refused}
-use Rattle.qc_machine.specs.Refuse.{first_some, is_of_line}
+use Rattle.qc_machine.specs.Refuse.{first_some, is_of_line, refuse_if}
 use Rattle.qc_machine.specs.Sending.{too_many, no_room_for}
 use Rattle.qc_machine.specs.Rooms.{journal_full}
 use Rattle.qc_machine.specs.Switching.{fact_switched}
@@ -19,7 +19,7 @@ use Rattle.qc_machine.specs.Taking.{app_off, app_none_due, app_not_built, no_roo
 use Rattle.qc_machine.specs.Slots.{out_of_slots, client_busy, player_busy, idle, stage_unless, has_calls, can_end, has_ended}
 use Rattle.qc_machine.specs.State.{State, at_moment, in_slot, fact_room}
 use Rattle.qc_machine.specs.Step.{step, step_of, answer, refusal}
-use Rattle.qc_machine.specs.Steps.{Step, stays}
+use Rattle.qc_machine.specs.Steps.{stays}
 
 -- by the refusal
 
@@ -94,31 +94,7 @@ pub refusal-switch : (s : State) (app : List ℕ) (on : Bool) → refusal s (Swi
 unfolding refusal
 refusal-switch s app on = refl
 
--- each other order isn't built
-
--- the order is one that isn't there yet
-abbrev pub IsOther : Act → Type 0
-IsOther (Move from to batch) = ⊤
-IsOther _ = ⊥
-
-other-act : (s : State) (at : ℕ) (act : Act) → IsOther act → answer s (at_moment at s) act (refusal (at_moment at s) act) ≡ stays s (Refused NotBuilt)
+pub refusal-move : (s : State) (from to : List ℕ) (batch : ℕ) → refusal s (Move from to batch)
+    ≡ first_some (if_refused (route s.history.catalogue from to) ∷ refuse_if (not (is_between 1 1000 batch)) BadBatch ∷ no_room_to_move s batch (route s.history.catalogue from to) ∷ [])
 unfolding refusal
-other-act s at (Move from to batch) is = refl
-other-act s at (Outside name) is = absurd is
-other-act s at (Send app component calls) is = absurd is
-other-act s at (Queues app) is = absurd is
-other-act s at (OpenSlot n app component) is = absurd is
-other-act s at (CallSlot n call) is = absurd is
-other-act s at (CommitSlot n) is = absurd is
-other-act s at (CancelSlot n) is = absurd is
-other-act s at (Take n app) is = absurd is
-other-act s at (Work n) is = absurd is
-other-act s at (End n) is = absurd is
-other-act s at (Phase n) is = absurd is
-other-act s at (Play n app) is = absurd is
-other-act s at (Switch app on) is = absurd is
-other-act s at (Table name) is = absurd is
-
-pub step-other : (s : State) (order : Order) → IsOther order.act → step s order ≡ stays s (Refused NotBuilt)
-unfolding step
-step-other s order is = other-act s order.at order.act is
+refusal-move s from to batch = refl

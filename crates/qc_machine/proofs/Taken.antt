@@ -1,26 +1,24 @@
 -- A message that is taken: its attempt begins beside those that are held.
-use Rattle.std.proofs.Common.{◌≡◌, ◌∙◌, ℕ, ◌+◌, ◌-◌, ◌≤◌, ◌==◌, zero, suc, leb, List, [], ◌∷◌, ◌++◌, Bool, true, false, not, cond, ◌&&◌, ◌||◌, length, map, find, filter, filter_map, refl, sym, ap, subst, arith, true≢false, Option, Some, None, ne_eqb, eqb-true, eq-eqb, le-leb}
+use Rattle.std.proofs.Common.{◌≡◌, ◌∙◌, ℕ, ◌==◌, List, [], ◌∷◌, Bool, true, false, not, cond, ◌&&◌, ◌||◌, length, map, find, filter, filter_map, refl, sym, ap, arith, true≢false, Some, ne_eqb, eqb-true}
 use Rattle.std.specs.List.{list_any}
-use Rattle.std.proofs.lemmas.Bool.{and_parts, and_from, or_parts, not-true, not-false, eqb-false, not_from_false}
+use Rattle.std.proofs.lemmas.Bool.{and_parts, or_parts, not-true, eqb-false, not_from_false}
 use Rattle.qc_base.specs.declared.message.Message.{Message}
-use Rattle.qc_base.specs.declared.fact.Kind.{Kind}
-use Rattle.qc_base.specs.declared.log_line.Stage.{Stage}
 use Rattle.qc_base.specs.declared.log_line.Stage.TheVariants.{Calls, Ready}
 use Rattle.qc_base.specs.declared.recording.Row.{Row}
 use Rattle.qc_base.specs.Rows.{row_eq}
 use Rattle.qc_base.specs.Spelling.{is_attempt}
 use Rattle.std.specs.Str.{bytes_eq}
 use Rattle.qc_base.specs.Messages.{message_of}
-use Rattle.qc_play.specs.Play.{Play, rows_in}
+use Rattle.qc_play.specs.Play.{Play}
 use Rattle.qc_play.proofs.RowNames.{row-same}
 use Rattle.qc_store.specs.Due.{is_queued, is_before}
-use Rattle.qc_txn.specs.Outcome.{new_play, all_played, play_all}
+use Rattle.qc_txn.specs.Outcome.{all_played, play_all}
 use Rattle.qc_txn.specs.Parts.{Part, parts_of, rows_of_attempt}
 use Rattle.qc_rows.specs.Holdings.{is_held, is_row_held}
 use Rattle.qc_listener.specs.Choice.{is_due, kind_at, due_messages, has_free_rows}
-use Rattle.qc_machine.specs.Attempts.{holdings, next_attempt, chosen_message, parts_held}
-use Rattle.qc_machine.specs.History.{settled_amount, attempt_of, is_new_attempt, plays_inside, view_at}
-use Rattle.qc_machine.specs.Holding.{has_row, first_play, Holds, IsOpen, HasCome, IsHeldIn, AreApart}
+use Rattle.qc_machine.specs.Attempts.{holdings, next_attempt, chosen_message}
+use Rattle.qc_machine.specs.History.{settled_amount, attempt_of, is_new_attempt, plays_inside}
+use Rattle.qc_machine.specs.Holding.{has_row, first_play, Holds, HasCome, IsHeldIn, AreApart}
 use Rattle.qc_machine.specs.Orderly.{IsOrderly, IsMessageOf}
 use Rattle.qc_machine.specs.State.{State, HeldAttempt, held_attempts}
 use Rattle.qc_machine.specs.Taking.{new_attempt}

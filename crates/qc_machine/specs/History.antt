@@ -1,6 +1,6 @@
 -- A history, what it settles, and which facts may follow.
 use Rattle.std.specs.Prelude.{ℕ, ◌+◌, nat_le, List, [], ◌∷◌, ◌++◌, length, map, filter_map, Bool, true, false, not, ◌&&◌, ◌==◌, Option, Some, None, option_and_then, is_some, unwrap_or, Result, Ok, Err, if◌then◌else◌}
-use Rattle.std.specs.List.{list_any}
+use Rattle.std.specs.List.{list_all, list_any}
 use Rattle.std.specs.Option.{option_map_or}
 use Rattle.std.specs.Str.{bytes_eq}
 use Rattle.qc_base.specs.declared.fact.Fact.{Fact}
@@ -11,7 +11,7 @@ use Rattle.qc_base.specs.declared.message.Message.{Message}
 use Rattle.qc_base.specs.declared.recording.Recording.{Recording}
 use Rattle.qc_base.specs.declared.recording.Row.{Row}
 use Rattle.qc_base.specs.declared.recording.Space.TheVariants.{Inside, Outside}
-use Rattle.qc_base.specs.Messages.{after_sent, after_failed, after_consumed, after_moved, message_of}
+use Rattle.qc_base.specs.Messages.{after_sent, after_failed, after_consumed, after_moved, is_consumed, message_of}
 use Rattle.qc_base.specs.Spelling.{is_fact}
 use Rattle.qc_catalogue.specs.declared.catalogue.App.{App}
 use Rattle.qc_catalogue.specs.declared.catalogue.Catalogue.{Catalogue}
@@ -169,19 +169,34 @@ may_end h id attempt at kind committed = option_map_or (may_end_on h attempt at 
 abbrev pub kind_of : ℕ → History → Kind
 kind_of id h = option_map_or (λ (m : Message). kind_at m.place) (message_of id h.messages) Normal
 
+-- messages of an application that aren't consumed, by their ids, none of them twice
+
+abbrev pub is_live_of : List ℕ → Message → Bool
+is_live_of app m = bytes_eq m.recording.app app && not (is_consumed m.place)
+
+abbrev pub is_movable : List ℕ → List Message → ℕ → Bool
+is_movable app messages id = option_map_or (is_live_of app) (message_of id messages) false
+
+abbrev pub are_distinct : List ℕ → Bool
+are_distinct [] = true
+are_distinct (id ∷ ids) = not (list_any (λ n. n == id) ids) && are_distinct ids
+
+abbrev pub are_movable : History → List ℕ → List ℕ → Bool
+are_movable h app ids = are_distinct ids && list_all (is_movable app h.messages) ids
+
 -- behind a first fact, at a moment that doesn't fall
 abbrev pub is_later : ℕ → History → Bool
 is_later at h = nat_le 1 (length h.facts) && nat_le h.last at
 
 -- A history begins with a catalogue. A message is sent with the next id, from 1, and fits the catalogue in force. An
--- attempt on a message that is due ends as its outcome is, and a switch is of an application that is there. No message
--- is moved yet.
+-- attempt on a message that is due ends as its outcome is. What is moved are messages of the application that aren't
+-- consumed, and a switch is of an application that is there.
 abbrev pub goes_on : Reader → History → Fact → Bool
 goes_on read h (InForce text) = (length h.facts == 0) && is_some (read text)
 goes_on read h (Sent id at r) = is_later at h && (id == length h.messages + 1 && recording_fits h.catalogue r)
 goes_on read h (Played id attempt kind at) = is_later at h && may_end h id attempt at kind true
 goes_on read h (Failed id attempt at) = is_later at h && may_end h id attempt at (kind_of id h) false
-goes_on read h (Moved app queue at ids) = false
+goes_on read h (Moved app queue at ids) = is_later at h && are_movable h app ids
 goes_on read h (Switched app on at) = is_later at h && is_some (app_named app h.catalogue.apps)
 
 -- a fact within its limits that goes on with the history

@@ -1,8 +1,8 @@
 -- What holds of the attempts that players hold.
-use Rattle.std.specs.Prelude.{◌≡◌, ℕ, ◌≤◌, ◌<◌, List, [], length, slice_get, take, Bool, true, false, not, ◌||◌, ◌==◌, Some, None}
+use Rattle.std.specs.Prelude.{◌≡◌, ℕ, ◌<◌, List, [], length, slice_get, take, Bool, true, false, not, ◌||◌, ◌==◌, Some, None}
 use Rattle.std.specs.List.{list_all, list_any}
 use Rattle.qc_base.specs.declared.fact.Fact.{Fact}
-use Rattle.qc_base.specs.declared.fact.Fact.TheVariants.{Catalogue as InForce, Sent, Played, Failed, Moved, Switched}
+use Rattle.qc_base.specs.declared.fact.Fact.TheVariants.{Played, Failed}
 use Rattle.qc_base.specs.declared.log_line.Stage.{Stage}
 use Rattle.qc_base.specs.declared.log_line.Stage.TheVariants.{Calls, Ready, Failing, Commit, Abort}
 use Rattle.qc_base.specs.declared.log_line.Why.TheVariants.{Step as AtStep}
@@ -101,3 +101,7 @@ pub record AreHeld (s : State) : Type 0 where
   pub slots : length s.players ≡ 16
   pub held : (i : ℕ) (a : HeldAttempt) → Holds s i a → IsHeldIn s.history s.last a
   pub apart : (i j : ℕ) (a b : HeldAttempt) → (i ≡ j → ⊥) → Holds s i a → Holds s j b → AreApart a b
+
+-- none of these messages is held
+abbrev pub IsHeldByNone : State → List ℕ → Type 0
+IsHeldByNone s ids = (i : ℕ) (a : HeldAttempt) → Holds s i a → list_any (λ id. id == a.id) ids ≡ false

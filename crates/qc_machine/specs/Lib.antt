@@ -3,6 +3,7 @@ pub mod History
 pub mod Holding
 pub mod Laws
 pub mod Listing
+pub mod Moving
 pub mod Once
 pub mod Opening
 pub mod Names
@@ -20,3 +21,5 @@ pub mod Step
 pub mod Steps
 pub mod Switching
 pub mod Taking
+pub mod Worked
+pub mod WorkedMoves

@@ -1,5 +1,5 @@
 -- What is recorded of the calls that an order asks for, and why it isn't.
-use Rattle.std.specs.Prelude.{ℕ, List, [], ◌∷◌, Option, Some, None, option_map, option_and_then, Result, Ok, Err}
+use Rattle.std.specs.Prelude.{ℕ, [], ◌∷◌, Option, Some, None, option_map, option_and_then, Result, Ok, Err}
 use Rattle.qc_base.specs.declared.recording.Recording.{Recording}
 use Rattle.qc_protocol.specs.declared.order.Act.{Act}
 use Rattle.qc_protocol.specs.declared.order.Act.TheVariants.{OpenSlot, CallSlot, CommitSlot, Send}
@@ -19,8 +19,8 @@ recording_asked s (CallSlot n call) = called_by s n call
 recording_asked s (Send app component calls) = Some (recorded s.history.catalogue app component calls)
 recording_asked s _ = None
 
-abbrev pub if_refused : Result Recording Refusal → Option Refusal
-if_refused (Ok r) = None
+abbrev pub if_refused : {A : Type 0} → Result A Refusal → Option Refusal
+if_refused (Ok a) = None
 if_refused (Err refusal) = Some refusal
 
 abbrev pub not_recorded : State → Act → Option Refusal

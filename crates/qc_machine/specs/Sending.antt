@@ -1,5 +1,5 @@
 -- Orders that send a message.
-use Rattle.std.specs.Prelude.{ℕ, ◌+◌, nat_le, List, [], length, Option, Some, None, option_and_then}
+use Rattle.std.specs.Prelude.{◌+◌, nat_le, [], length, Option, Some, None, option_and_then}
 use Rattle.qc_base.specs.declared.fact.Fact.{Fact}
 use Rattle.qc_base.specs.declared.fact.Fact.TheVariants.{Sent as FactSent}
 use Rattle.qc_base.specs.declared.recording.Recording.{Recording}

@@ -4,7 +4,7 @@ use Rattle.qc_protocol.specs.declared.reply.Reply.{Reply}
 use Rattle.qc_machine.specs.State.{State}
 
 pub record Step : Type 0 where
-  -- the states that it goes through, each after one change of the site, but for the first and the last
+  -- the states behind each change of the site, where there may be more than one
   pub through : List State
   pub state : State
   pub reply : Reply

@@ -1,6 +1,5 @@
 -- Orders that take a message, and why they don't.
-use Rattle.std.specs.Prelude.{ℕ, List, length, Bool, not, ◌&&◌, Option, Some, None, option_and_then, is_none}
-use Rattle.qc_base.specs.declared.fact.Kind.TheVariants.{Normal}
+use Rattle.std.specs.Prelude.{ℕ, List, length, Bool, not, Option, Some, None, option_and_then, is_none}
 use Rattle.qc_base.specs.declared.message.Message.{Message}
 use Rattle.qc_protocol.specs.declared.order.Act.{Act}
 use Rattle.qc_protocol.specs.declared.order.Act.TheVariants.{Take, Play}
@@ -13,7 +12,7 @@ use Rattle.qc_txn.specs.Outcome.{new_play}
 use Rattle.qc_txn.specs.Parts.{parts_of}
 use Rattle.qc_listener.specs.Choice.{kind_at}
 use Rattle.qc_machine.specs.Attempts.{chosen_message, earliest_of, blocked_count, next_attempt, parts_held}
-use Rattle.qc_machine.specs.History.{plays_inside, is_on, kind_eq, view_at}
+use Rattle.qc_machine.specs.History.{plays_inside, is_on, view_at}
 use Rattle.qc_machine.specs.Refuse.{refuse_if}
 use Rattle.qc_machine.specs.Rooms.{take_full}
 use Rattle.qc_machine.specs.State.{State, HeldAttempt, with_player}
@@ -37,9 +36,9 @@ app_none_due s app = refuse_if (is_none (chosen_message s app)) (NothingDue (ear
 abbrev pub nothing_due : State → Act → Option Refusal
 nothing_due s act = option_and_then (app_none_due s) (app_taken act)
 
--- final attempts and attempts that change something outside aren't built yet
+-- attempts that change something outside aren't built yet
 abbrev pub can_play : Catalogue → Message → Bool
-can_play c m = kind_eq (kind_at m.place) Normal && plays_inside c m.recording (kind_at m.place)
+can_play c m = plays_inside c m.recording (kind_at m.place)
 
 abbrev pub app_not_built : State → List ℕ → Option Refusal
 app_not_built s app = option_and_then (λ (m : Message). refuse_if (not (can_play s.history.catalogue m)) NotBuilt) (chosen_message s app)

@@ -1,14 +1,19 @@
 // What holds of every step. Nothing runs here: the contracts are the laws.
-ghost use Rattle.std.specs.Prelude.{◌≡◌, ◌≤◌, ℕ, List, true, if◌then◌else◌};
+ghost use Rattle.std.specs.Prelude.{◌≡◌, ◌≤◌, ℕ, List, flat_map, true, Some, if◌then◌else◌};
 ghost use Rattle.qc_base.specs.declared.fact.Fact.{Fact};
+ghost use Rattle.qc_base.specs.declared.message.Message.{Message};
+ghost use Rattle.qc_base.specs.Messages.{message_of};
 ghost use Rattle.qc_catalogue.specs.Laws.{keys_ascend};
+ghost use Rattle.qc_listener.specs.Choice.{kind_at};
 ghost use Rattle.qc_protocol.specs.declared.order.Order.{Order};
 ghost use Rattle.qc_protocol.specs.declared.reply.Refusal.{Refusal};
 ghost use Rattle.qc_protocol.specs.declared.reply.Reply.TheVariants.{Refused};
 ghost use Rattle.qc_rows.specs.Laws.{are_canonical};
 ghost use Rattle.qc_rows.specs.Tables.{rows_shown};
+ghost use Rattle.qc_txn.specs.Parts.{is_playable};
 ghost use Rattle.qc_machine.specs.History.{Reader, by_text, history_of, is_legal};
 ghost use Rattle.qc_machine.specs.Laws.{GoesOn, IsInRange, IsSettled, ReadsOrderly};
+ghost use Rattle.qc_machine.specs.Moving.{AreOfSize, batches};
 ghost use Rattle.qc_machine.specs.Once.{EachOnce, TotalsSettled};
 ghost use Rattle.qc_machine.specs.Refuse.{is_of_line};
 ghost use Rattle.qc_machine.specs.State.{State, at_moment};
@@ -54,4 +59,19 @@ pub fn messages_stand_in_one_place()
 /// it: no other fact changes a total (docs/RULES.md, "Histories").
 pub fn totals_are_settled()
     ensures { (read : Reader) (facts : List Fact) → is_legal read facts ≡ true → TotalsSettled read facts }
+{}
+
+/// The batches of a move have its ids, each once and in order. Each is of the size asked for, but that the last may be
+/// smaller, and none is empty (docs/RULES.md, "Mover").
+pub fn batches_have_all_ids_in_order()
+    ensures joined { (size : ℕ) (ids : List ℕ) → 1 ≤ size → flat_map (λ batch. batch) (batches size ids) ≡ ids }
+    ensures sizes { (size : ℕ) (ids : List ℕ) → 1 ≤ size → AreOfSize size (batches size ids) }
+{}
+
+/// In a legal history each message can be played by the catalogue in force in the way that its place asks for: a final
+/// attempt too has a script for each of its calls (docs/RULES.md, "What an attempt plays").
+pub fn each_message_can_be_played()
+    ensures { (facts : List Fact) (id : ℕ) (m : Message) → is_legal by_text facts ≡ true
+        → message_of id (history_of by_text facts).messages ≡ Some m
+        → is_playable (history_of by_text facts).catalogue m.recording (kind_at m.place) ≡ true }
 {}

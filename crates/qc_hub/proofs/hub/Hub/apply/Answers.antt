@@ -1,15 +1,7 @@
-use Rattle.std.proofs.Common.{◌≡◌, ◌∙◌, ℕ, List, Bool, refl, sym, subst, inl}
-use Rattle.qc_protocol.specs.declared.order.Act.{Act}
-use Rattle.qc_protocol.specs.declared.order.Act.TheVariants.{OpenSlot, CallSlot, CommitSlot, CancelSlot, Send, Take, Work, End, Phase, Play, Move, Switch, Queues, Table, Outside}
-use Rattle.qc_protocol.specs.declared.order.RawCall.{RawCall}
-use Rattle.qc_protocol.specs.declared.reply.Refusal.TheVariants.{NotBuilt}
-use Rattle.qc_protocol.specs.declared.reply.Reply.TheVariants.{Refused}
-use Rattle.qc_machine.specs.Steps.{Step}
-use Rattle.qc_machine.proofs.Steps.{IsOther, step-other}
-use Rattle.qc_hub.specs.Stands.{StepsTo}
-use Rattle.qc_hub.proofs.Calling.{answered, of_order}
+use Rattle.std.proofs.Common.{◌∙◌, sym}
+use Rattle.qc_protocol.specs.declared.order.Act.TheVariants.{OpenSlot, Send, Take, Play, Move, Switch, Queues, Table, Outside}
+use Rattle.qc_hub.proofs.Calling.{of_order}
 use Rattle.qc_hub.proofs.InMemory.{in_memory}
-use Rattle.qc_hub.proofs.Later.{took-nothing}
 use Rattle.qc_hub.proofs.hub.Hub.apply.Goals as goal
 
 pub returns-in-OpenSlot : goal.returns-in-OpenSlot
@@ -62,6 +54,11 @@ returns-in-Play g c =
     of_order g.S.Site c.args.order.now.at _ _ (c.in-Play.is ∙ (λ i. Play c.in-Play.player ((sym c.as_slice-in-Play.ensures) i))) _ c.args.self.now _ _ _
     c.play.ensures
 
+pub returns-in-Move : goal.returns-in-Move
+returns-in-Move g c =
+    of_order g.S.Site c.args.order.now.at _ _ (c.in-Move.is ∙ (λ i. Move ((sym c.as_slice-in-Move.ensures) i) ((sym c.as_slice-in-Move-2.ensures) i) c.in-Move.batch)) _ c.args.self.now _ _ _
+    c.move_messages.ensures
+
 pub returns-in-Switch : goal.returns-in-Switch
 returns-in-Switch g c =
     of_order g.S.Site c.args.order.now.at _ _ (c.in-Switch.is ∙ (λ i. Switch ((sym c.as_slice-in-Switch.ensures) i) c.in-Switch.on)) _ c.args.self.now _ _ _
@@ -81,61 +78,3 @@ pub returns-in-Outside : goal.returns-in-Outside
 returns-in-Outside g c =
     of_order g.S.Site c.args.order.now.at _ _ (c.in-Outside.is ∙ (λ i. Outside ((sym c.as_slice-in-Outside.ensures) i))) _ c.args.self.now _ _ _
     c.outside.ensures
-
--- no order that there is stands in another arm
-record NoOther (act : Act) : Type 0 where
-  opens : (n : ℕ) (app component : List ℕ) → act ≡ OpenSlot n app component → ⊥
-  calls : (n : ℕ) (call : RawCall) → act ≡ CallSlot n call → ⊥
-  commits : (n : ℕ) → act ≡ CommitSlot n → ⊥
-  cancels : (n : ℕ) → act ≡ CancelSlot n → ⊥
-  sends : (app component : List ℕ) (calls : List RawCall) → act ≡ Send app component calls → ⊥
-  takes : (n : ℕ) (app : List ℕ) → act ≡ Take n app → ⊥
-  works : (n : ℕ) → act ≡ Work n → ⊥
-  ends : (n : ℕ) → act ≡ End n → ⊥
-  finishes : (n : ℕ) → act ≡ Phase n → ⊥
-  plays : (n : ℕ) (app : List ℕ) → act ≡ Play n app → ⊥
-  switches : (app : List ℕ) (on : Bool) → act ≡ Switch app on → ⊥
-  lists : (app : List ℕ) → act ≡ Queues app → ⊥
-  shows : (table : List ℕ) → act ≡ Table table → ⊥
-  holds : (resource : List ℕ) → act ≡ Outside resource → ⊥
-
-is-other : (act : Act) → NoOther act → IsOther act
-is-other (Move from to batch) none = tt
-is-other (OpenSlot n app component) none = absurd (none.opens n app component refl)
-is-other (CallSlot n call) none = absurd (none.calls n call refl)
-is-other (CommitSlot n) none = absurd (none.commits n refl)
-is-other (CancelSlot n) none = absurd (none.cancels n refl)
-is-other (Send app component calls) none = absurd (none.sends app component calls refl)
-is-other (Take n app) none = absurd (none.takes n app refl)
-is-other (Work n) none = absurd (none.works n refl)
-is-other (End n) none = absurd (none.ends n refl)
-is-other (Phase n) none = absurd (none.finishes n refl)
-is-other (Play n app) none = absurd (none.plays n app refl)
-is-other (Switch app on) none = absurd (none.switches app on refl)
-is-other (Queues app) none = absurd (none.lists app refl)
-is-other (Table table) none = absurd (none.shows table refl)
-is-other (Outside resource) none = absurd (none.holds resource refl)
-
-pub returns-in_default : goal.returns-in_default
-returns-in_default g c =
-    answered g.S.Site c.args.order.now.at _ _ c.args.self.now _ c.args.site.now (g.met.S.Site.only_now c.args.site.now) c.requires (inl (took-nothing c.args.self.now)) (λ e. cc)
-    (λ told s h site.
-    let P : Step → Type 0 = λ x. StepsTo x c.args.self.now (g.S.Site.shown c.args.site.now) (Refused NotBuilt) in
-    subst P
-    (sym (step-other s c.args.order.now (is-other c.args.order.now.act (record {
-      opens = c.in_default.not-OpenSlot;
-      calls = c.in_default.not-CallSlot;
-      commits = c.in_default.not-CommitSlot;
-      cancels = c.in_default.not-CancelSlot;
-      sends = c.in_default.not-Send;
-      takes = c.in_default.not-Take;
-      works = c.in_default.not-Work;
-      ends = c.in_default.not-End;
-      finishes = c.in_default.not-Phase;
-      plays = c.in_default.not-Play;
-      switches = c.in_default.not-Switch;
-      lists = c.in_default.not-Queues;
-      shows = c.in_default.not-Table;
-      holds = c.in_default.not-Outside;
-    }))))
-    (record { replies = refl; is_in = h; on_site = site }))

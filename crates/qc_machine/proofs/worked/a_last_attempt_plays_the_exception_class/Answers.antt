@@ -1,0 +1,11 @@
+use Rattle.std.proofs.Common.{refl}
+use Rattle.std.specs.Str.{is_utf8, chars}
+use Rattle.std.specs.Fmt.{digits}
+use lib.Utf8.{encode}
+use Rattle.qc_base.specs.Spelling.{two_bytes, four_bytes, eight_bytes}
+use Rattle.qc_machine.specs.Step.{step, refusal}
+use Rattle.qc_machine.proofs.worked.a_last_attempt_plays_the_exception_class.Goals as goal
+
+pub returns : goal.returns
+unfolding is_utf8 chars digits encode step refusal two_bytes four_bytes eight_bytes
+returns c = record { played = refl; calls = refl; without = refl }

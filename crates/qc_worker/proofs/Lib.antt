@@ -1,0 +1,3 @@
+mod Written
+pub mod Logged
+pub mod Reading
