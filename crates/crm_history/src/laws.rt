@@ -5,7 +5,7 @@ ghost use Rattle.qc_catalogue.specs.declared.catalogue.Catalogue.{Catalogue};
 ghost use Rattle.crm_history.specs.declared.ended.Ended.{Ended};
 ghost use Rattle.crm_history.specs.Legal.{is_log_legal, line_may_follow};
 
-/// A log without lines is legal, and one with a line more exactly where it was legal and the line may follow.
+/// A log with a line more is legal exactly where it was legal without it, and the line may follow.
 pub fn a_log_is_legal_line_by_line()
     ensures { (c : Catalogue) (sent : ℕ) (ended : List Ended) (lines : List LogLine) (line : LogLine)
         → is_log_legal c sent ended (lines ++ line ∷ [])
