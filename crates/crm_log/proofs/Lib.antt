@@ -1,6 +1,6 @@
 pub mod Lengths
 mod Refused
-mod Rising
+pub mod Rising
 mod Held
 mod Steps
 mod Kept

@@ -1,9 +1,10 @@
 // A log in which each group is one line or more.
-ghost use Rattle.std.specs.Prelude.{◌≡◌, ◌≤◌, ℕ, [], ◌∷◌, ◌++◌, List, length, max, OnOk, OnErr, IfOk, IfSome, IfNone, IsErrOf};
+ghost use Rattle.std.specs.Prelude.{◌≡◌, ◌≤◌, ℕ, [], ◌∷◌, ◌++◌, List, length, max, OnOk, OnErr, IfOk, IfSome, IfNone, IsErrOf, true};
 ghost use Rattle.qc_base.specs.declared.log_line.LogLine.{LogLine};
+ghost use Rattle.qc_base.specs.Spelling.{is_line};
 ghost use Rattle.qc_site.specs.Image.{bytes_of};
 ghost use Rattle.qc_site.specs.declared.site.SiteFile.TheVariants.{CrmLog as the_file};
-ghost use Rattle.qc_frame.specs.Calls.{LogStands, MakesLog, OpensLog, ReadsOn, Forces};
+ghost use Rattle.qc_frame.specs.Calls.{LogStands, MakesLog, OpensLog, ReadsOn, Forces, IfFound};
 ghost use Rattle.qc_entries.specs.Entries.{log_of};
 ghost use Rattle.crm_log.specs.Log.{log_header, IsLogOf, LinesWait};
 ghost use Rattle.crm_log.specs.Lines.{DamagedLine, CanStageLine, staged_line, FirstSpells, NoneSpelled};
@@ -89,6 +90,7 @@ impl CrmLog {
     ) -> Result<Option<(u64, LogLine)>, LogError>
         requires stands { LogStands S.Site self.old.log site.old }
         ensures finds { FindsLine S.Site result self.old site.old self.new site.new }
+        ensures limits { IfFound result (λ next. is_line next.1 ≡ true) }
         ensures reads { ReadsOn S.Site (DamagedLine (bytes_of self.old.log.file (S.shown site.old)) self.old)
             result self.old.log site.old self.new.log site.new }
     {

@@ -8,6 +8,7 @@ use Rattle.qc_catalogue.specs.Sample.{sample, sample_catalogue}
 use Rattle.qc_catalogue.specs.declared.catalogue.Catalogue.{Catalogue}
 use Rattle.qc_catalogue.specs.declared.error.CatalogueError.{CatalogueError}
 use Rattle.qc_recorder.specs.Fits.{recording_fits}
+use Rattle.qc_rows.specs.Outside.{opened_resources}
 use Rattle.qc_rows.specs.Tables.{opened_tables}
 use Rattle.qc_machine.specs.declared.limits.Limits.{Limits}
 use Rattle.qc_machine.specs.History.{by_text, if_ok, no_catalogue}
@@ -27,7 +28,7 @@ sample-read is = ap (λ (r : Result Catalogue CatalogueError). unwrap_or (if_ok 
 -- the state of a site that was just made from the sample, by its catalogue
 abbrev pub made_by : Catalogue → Limits → State
 made_by c limits = record {
-  history = record { facts = made_facts; catalogue = c; messages = []; tables = opened_tables c; last = 0 };
+  history = record { facts = made_facts; catalogue = c; messages = []; tables = opened_tables c; outside = opened_resources c; last = 0 };
   rows = made_rows;
   last = 0;
   clients = no_clients;

@@ -13,14 +13,14 @@ use Rattle.qc_listener.proofs.Kept.{rows_of_kind}
 use Rattle.qc_machine.specs.History.{History, outcome_on, settled_amount}
 use Rattle.qc_play.specs.Play.{Seen}
 use Rattle.qc_txn.specs.Attempt.{AttemptView, decided, why_at_end}
-use Rattle.qc_txn.specs.Ends.{PlaysAll}
+use Rattle.qc_txn.specs.Ends.{PlaysAll, votes_of}
 use Rattle.qc_txn.specs.Outcome.{ended, not_ready, outcome, view_of}
 use Rattle.qc_txn.specs.Parts.{Part, parts_of, rows_of_attempt}
-use Rattle.qc_txn.proofs.Ending.{ends}
-use Rattle.qc_txn.proofs.Quiet.{quiet-parts}
+use Rattle.qc_txn.proofs.Ending.{ends, first_refuser}
 use Rattle.qc_history.specs.Playing.{BeginsOn, IsPlayedAgain, kind_of_attempt}
 use Rattle.qc_history.specs.Stands.{IsHistoryOf}
 use Rattle.qc_history.specs.View.{HistoryView}
+use Rattle.qc_history.specs.Votes.{heard_out, names_changed}
 use Rattle.qc_history.proofs.Follows.{KindFound, kind-found}
 use Rattle.qc_history.proofs.Kept.{found-passes}
 
@@ -44,62 +44,69 @@ pub record SameAttempt (a b : AttemptView) : Type 0 where
   pub id : b.id ≡ a.id
   pub number : b.number ≡ a.number
   pub kind : b.kind ≡ a.kind
+  pub refuser : b.refuser ≡ a.refuser
 
 pub calls-same : (parts : List Part) (old new : AttemptView) → PlaysAll parts old new → SameAttempt old new
-calls-same [] old new is = record { id = ap (λ (a : AttemptView). a.id) is; number = ap (λ (a : AttemptView). a.number) is; kind = ap (λ (a : AttemptView). a.kind) is }
+calls-same [] old new is = record {
+  id = ap (λ (a : AttemptView). a.id) is;
+  number = ap (λ (a : AttemptView). a.number) is;
+  kind = ap (λ (a : AttemptView). a.kind) is;
+  refuser = ap (λ (a : AttemptView). a.refuser) is;
+}
 calls-same (p ∷ parts) old new (inl (next, number, runs, more)) =
     let rest = calls-same parts next new more in
     record {
       id = rest.id ∙ ap (λ (a : AttemptView). a.id) runs.kept;
       number = rest.number ∙ ap (λ (a : AttemptView). a.number) runs.kept;
       kind = rest.kind ∙ ap (λ (a : AttemptView). a.kind) runs.kept;
+      refuser = rest.refuser ∙ ap (λ (a : AttemptView). a.refuser) runs.kept;
     }
 calls-same (p ∷ parts) old new (inr (step, failing)) = record {
   id = ap (λ (a : AttemptView). a.id) failing.kept;
   number = ap (λ (a : AttemptView). a.number) failing.kept;
   kind = ap (λ (a : AttemptView). a.kind) failing.kept;
+  refuser = ap (λ (a : AttemptView). a.refuser) failing.kept;
 }
 
--- it ends by its outcome
+-- it ends by its outcome, after the votes
 module _ (view : HistoryView) (of number : ℕ) (a last : AttemptView) (on : BeginsOn view of number a) (plays : PlaysAll (drop a.calls (parts_of view.catalogue a.recording a.kind)) a last) where
   abbrev all : List Part
   all = parts_of view.catalogue a.recording a.kind
 
   abbrev seen : List Seen
-  seen = view_of (settled_amount view.tables.tables) (rows_of_attempt view.catalogue on.message.recording (kind_at on.message.place))
+  seen = view_of (settled_amount view.tables.tables view.outside) (rows_of_attempt view.catalogue on.message.recording (kind_at on.message.place))
+
+  abbrev heard : AttemptView
+  heard = heard_out view.catalogue last
 
   from_first : PlaysAll all a last
   from_first = subst (λ n. PlaysAll (drop n all) a last) (ap (λ (x : AttemptView). x.calls) on.is) plays
 
-  quiet : (last.play.records ≡ []) × (last.refuser ≡ None)
-  quiet =
-      let rest = quiet-parts all a last on.inside (ap (λ (x : AttemptView). x.play.records) on.is) from_first in
-      (rest.0, rest.1 ∙ ap (λ (x : AttemptView). x.refuser) on.is)
-
-  unheard : record last { refuser = not_ready view.catalogue last.play.records } ≡ last
-  unheard =
-      let none : not_ready view.catalogue last.play.records ≡ last.refuser = ap (not_ready view.catalogue) quiet.0 ∙ sym quiet.1 in
-      λ i. record last { refuser = none i }
-
   same : SameAttempt a last
   same = calls-same all a last from_first
 
-  outcome-seen : outcome view.catalogue a.recording a.kind seen ≡ ended last.play (why_at_end last)
+  -- no resource was heard before
+  votes-are : not_ready view.catalogue last.play.records ≡ heard.refuser
+  votes-are =
+      sym (first_refuser view.catalogue last.play.records (names_changed last.play.records))
+      ∙ ap (votes_of view.catalogue last.play.records (names_changed last.play.records)) (sym (same.refuser ∙ ap (λ (x : AttemptView). x.refuser) on.is))
+
+  outcome-seen : outcome view.catalogue a.recording a.kind seen ≡ ended heard.play (why_at_end heard)
   outcome-seen =
       ends view.catalogue seen a last (ap (λ (x : AttemptView). x.play) on.is) (ap (λ (x : AttemptView). x.why) on.is) from_first
-      ∙ ap (λ (x : AttemptView). ended last.play (why_at_end x)) unheard
+      ∙ ap (λ (o : Option (List ℕ)). ended last.play (why_at_end (record last { refuser = o }))) votes-are
 
   id-is : last.id ≡ of
   id-is = same.id ∙ ap (λ (x : AttemptView). x.id) on.is ∙ eqb-true on.message.id of (found-passes (λ (m : Message). m.id == of) view.store.messages on.message on.found)
 
   -- by the history's definitions
-  outcome-at : (h : History) → IsHistoryOf view h → outcome_on h a.kind on.message ≡ ended last.play (why_at_end last)
+  outcome-at : (h : History) → IsHistoryOf view h → outcome_on h a.kind on.message ≡ ended heard.play (why_at_end heard)
   outcome-at h is =
       let rec : a.recording ≡ on.message.recording = ap (λ (x : AttemptView). x.recording) on.is in
       let kin : a.kind ≡ kind_at on.message.place = ap (λ (x : AttemptView). x.kind) on.is in
-      (λ i. outcome (sym is.catalogue i) (sym rec i) a.kind (view_of (settled_amount (sym is.tables i)) (rows_of_attempt (sym is.catalogue i) on.message.recording (kin i)))) ∙ outcome-seen
+      (λ i. outcome (sym is.catalogue i) (sym rec i) a.kind (view_of (settled_amount (sym is.tables i) (sym is.outside i)) (rows_of_attempt (sym is.catalogue i) on.message.recording (kin i)))) ∙ outcome-seen
 
-  pub played-again : is_some (kind_of_attempt view.catalogue of view.store.messages) ≡ true → IsPlayedAgain view of number (decided last)
+  pub played-again : is_some (kind_of_attempt view.catalogue of view.store.messages) ≡ true → IsPlayedAgain view of number (decided heard)
   played-again some = record {
     id = id-is;
     number = same.number ∙ ap (λ (x : AttemptView). x.number) on.is;

@@ -22,14 +22,16 @@ use Rattle.qc_catalogue.specs.Catalogue.{catalogue_of}
 use Rattle.qc_catalogue.specs.Lookup.{app_named}
 use Rattle.qc_listener.specs.Choice.{is_due, kind_at}
 use Rattle.qc_machine.specs.Attempts.{greatest}
-use Rattle.qc_machine.specs.History.{History, after_fact, are_distinct, attempt_of, bool_eq, by_text, goes_on, if_ok, is_commit, is_later, is_movable, is_new_attempt, kind_eq, kind_of, may_end_on, names_exception, no_catalogue, outcome_on, plays_inside, with_fact}
+use Rattle.qc_machine.specs.History.{History, after_fact, are_distinct, attempt_of, bool_eq, by_text, goes_on, if_ok, is_commit, is_later, is_movable, is_new_attempt, kind_eq, kind_of, may_end_on, names_exception, no_catalogue, outcome_on, with_fact}
 use Rattle.qc_recorder.specs.Fits.{recording_fits}
+use Rattle.qc_rows.specs.Outside.{opened_resources}
 use Rattle.qc_rows.specs.Places.{TablesView}
-use Rattle.qc_rows.specs.Tables.{opened_tables}
+use Rattle.qc_rows.specs.Tables.{TableRows, opened_tables}
 use Rattle.qc_store.specs.Due.{is_queued}
 use Rattle.qc_store.specs.Live.{is_waiting}
 use Rattle.qc_txn.specs.Attempt.{AttemptView}
 use Rattle.qc_txn.specs.Outcome.{ended}
+use Rattle.qc_txn.specs.Parts.{is_playable}
 use Rattle.qc_history.specs.Adding.{AddsFact, Always, SetsAside}
 use Rattle.qc_history.specs.Playing.{HasOutcome, IsPlayedAgain, fact_ended, fact_read, fits_kind, kind_of_attempt, kind_on}
 use Rattle.qc_history.specs.Stands.{IsHistoryOf, attempts_in}
@@ -63,21 +65,21 @@ pub record KindFound (c : Catalogue) (of : ℕ) (ms : List Message) (k : Kind) :
   pub found : message_of of ms ≡ Some message
   pub queued : is_queued message.place ≡ true
   pub kind : k ≡ kind_at message.place
-  pub inside : plays_inside c message.recording k ≡ true
+  pub plays : is_playable c message.recording k ≡ true
 
 pub kind-found : (c : Catalogue) (of : ℕ) (ms : List Message) (k : Kind) → kind_of_attempt c of ms ≡ Some k → KindFound c of ms k
 kind-found c of ms k e = by (message_of of ms) refl e
   where
-    test : (m : Message) → message_of of ms ≡ Some m → (b : Bool) → (is_queued m.place && plays_inside c m.recording (kind_at m.place)) ≡ b → (if b then Some (kind_at m.place) else None) ≡ Some k → KindFound c of ms k
+    test : (m : Message) → message_of of ms ≡ Some m → (b : Bool) → (is_queued m.place && is_playable c m.recording (kind_at m.place)) ≡ b → (if b then Some (kind_at m.place) else None) ≡ Some k → KindFound c of ms k
     test m found true t e =
-        let parts = and_parts (is_queued m.place) (plays_inside c m.recording (kind_at m.place)) t in
+        let parts = and_parts (is_queued m.place) (is_playable c m.recording (kind_at m.place)) t in
         let same : kind_at m.place ≡ k = same_Some (kind_at m.place) k e in
-        record { message = m; found = found; queued = parts.0; kind = sym same; inside = subst (λ (x : Kind). plays_inside c m.recording x ≡ true) same parts.1 }
+        record { message = m; found = found; queued = parts.0; kind = sym same; plays = subst (λ (x : Kind). is_playable c m.recording x ≡ true) same parts.1 }
     test m found false t e = absurd (none-some k e)
 
     by : (o : Option Message) → message_of of ms ≡ o → option_and_then (kind_on c) o ≡ Some k → KindFound c of ms k
     by None found e = absurd (none-some k e)
-    by (Some m) found e = test m found (is_queued m.place && plays_inside c m.recording (kind_at m.place)) refl e
+    by (Some m) found e = test m found (is_queued m.place && is_playable c m.recording (kind_at m.place)) refl e
 
 pub kind-waits : (c : Catalogue) (of : ℕ) (ms : List Message) (k : Kind) → kind_of_attempt c of ms ≡ Some k → is_waiting of ms ≡ true
 kind-waits c of ms k e =
@@ -131,9 +133,9 @@ module _ (old : HistoryView) (numbers : List ℕ) where
 
   -- the first fact, a catalogue
 
-  pub first-taken : (text : List ℕ) (c : Catalogue) (tables : TablesView) → catalogue_of text ≡ Ok c → tables.tables ≡ opened_tables c → old.facts ≡ 0 → old.store.messages ≡ []
-      → Takes (InForce text) old numbers (record old { catalogue = c; tables = tables; facts = 1 }) numbers
-  first-taken text c tables reads opened first none =
+  pub first-taken : (text : List ℕ) (c : Catalogue) (tables : TablesView) (outside : List TableRows) → catalogue_of text ≡ Ok c → tables.tables ≡ opened_tables c → outside ≡ opened_resources c → old.facts ≡ 0 → old.store.messages ≡ []
+      → Takes (InForce text) old numbers (record old { catalogue = c; tables = tables; outside = outside; facts = 1 }) numbers
+  first-taken text c tables outside reads opened resources first none =
       let got : by_text text ≡ Some c = text-some text c reads in
       let in_force : unwrap_or (by_text text) no_catalogue ≡ c = ap (λ (o : Option Catalogue). unwrap_or o no_catalogue) got in
       record {
@@ -143,6 +145,7 @@ module _ (old : HistoryView) (numbers : List ℕ) where
             catalogue = sym in_force;
             messages = none ∙ sym (ap (map (λ (m : Message). record m { final_class = names_exception (unwrap_or (by_text text) no_catalogue) m.recording })) (sym read.is.messages ∙ none));
             tables = opened ∙ ap opened_tables (sym in_force);
+            outside = resources ∙ ap opened_resources (sym in_force);
             counted = omega (arith, first, read.is.counted, length_push h.facts (InForce text));
             last = read.is.last;
             off = off-same h (InForce text) old.off.names (λ name. refl) read.is.off;
@@ -280,26 +283,26 @@ module _ (old : HistoryView) (numbers : List ℕ) where
         and-false (is_due at m.place) _ (false-and (is_new_attempt number h) _ (ap not (ap (list_any (λ n. n == number)) (sym read.numbers) ∙ e))))
 
     -- an attempt of the kind that is told can't be played
-    not-played : (m : Message) (kind : Kind) (b : Bool) → plays_inside old.catalogue m.recording (kind_at m.place) ≡ false
-        → (kind_eq kind (kind_at m.place) && (plays_inside old.catalogue m.recording kind && b)) ≡ false
+    not-played : (m : Message) (kind : Kind) (b : Bool) → is_playable old.catalogue m.recording (kind_at m.place) ≡ false
+        → (kind_eq kind (kind_at m.place) && (is_playable old.catalogue m.recording kind && b)) ≡ false
     not-played m kind b none = by (kind_eq kind (kind_at m.place)) refl
       where
-        by : (t : Bool) → kind_eq kind (kind_at m.place) ≡ t → (t && (plays_inside old.catalogue m.recording kind && b)) ≡ false
-        by true e = false-and (plays_inside old.catalogue m.recording kind) b (subst (λ (k : Kind). plays_inside old.catalogue m.recording k ≡ false) (sym (kind-same kind (kind_at m.place) e)) none)
+        by : (t : Bool) → kind_eq kind (kind_at m.place) ≡ t → (t && (is_playable old.catalogue m.recording kind && b)) ≡ false
+        by true e = false-and (is_playable old.catalogue m.recording kind) b (subst (λ (k : Kind). is_playable old.catalogue m.recording k ≡ false) (sym (kind-same kind (kind_at m.place) e)) none)
         by false e = refl
 
     pub end-not-played : kind_of_attempt old.catalogue of old.store.messages ≡ None → Refuses fact old numbers old numbers
-    end-not-played e = end-refused (λ h m read found. by h m read (is_queued m.place) refl (plays_inside old.catalogue m.recording (kind_at m.place)) refl (sym (ap (option_and_then (kind_on old.catalogue)) found) ∙ e))
+    end-not-played e = end-refused (λ h m read found. by h m read (is_queued m.place) refl (is_playable old.catalogue m.recording (kind_at m.place)) refl (sym (ap (option_and_then (kind_on old.catalogue)) found) ∙ e))
       where
-        by : (h : History) (m : Message) → IsReadAs old numbers h → (q : Bool) → is_queued m.place ≡ q → (p : Bool) → plays_inside old.catalogue m.recording (kind_at m.place) ≡ p → kind_on old.catalogue m ≡ None → tests h m ≡ false
-        by h m read false q p inside none = false-and (is_due at m.place) _ (due-queued at m.place q)
-        by h m read true q false inside none =
+        by : (h : History) (m : Message) → IsReadAs old numbers h → (q : Bool) → is_queued m.place ≡ q → (p : Bool) → is_playable old.catalogue m.recording (kind_at m.place) ≡ p → kind_on old.catalogue m ≡ None → tests h m ≡ false
+        by h m read false q p plays none = false-and (is_due at m.place) _ (due-queued at m.place q)
+        by h m read true q false plays none =
             and-false (is_due at m.place) _
             (and-false (is_new_attempt number h) _
-            (subst (λ (c : Catalogue). (kind_eq (told (kind_at m.place)) (kind_at m.place) && (plays_inside c m.recording (told (kind_at m.place)) && bool_eq (is_some committed) (is_commit (outcome_on h (told (kind_at m.place)) m)))) ≡ false) read.is.catalogue
-            (not-played m (told (kind_at m.place)) (bool_eq (is_some committed) (is_commit (outcome_on h (told (kind_at m.place)) m))) inside)))
-        by h m read true q true inside none =
-            absurd (none-some (kind_at m.place) (sym none ∙ ap (λ (b : Bool). if b then Some (kind_at m.place) else None) (and_from (is_queued m.place) (plays_inside old.catalogue m.recording (kind_at m.place)) q inside)))
+            (subst (λ (c : Catalogue). (kind_eq (told (kind_at m.place)) (kind_at m.place) && (is_playable c m.recording (told (kind_at m.place)) && bool_eq (is_some committed) (is_commit (outcome_on h (told (kind_at m.place)) m)))) ≡ false) read.is.catalogue
+            (not-played m (told (kind_at m.place)) (bool_eq (is_some committed) (is_commit (outcome_on h (told (kind_at m.place)) m))) plays)))
+        by h m read true q true plays none =
+            absurd (none-some (kind_at m.place) (sym none ∙ ap (λ (b : Bool). if b then Some (kind_at m.place) else None) (and_from (is_queued m.place) (is_playable old.catalogue m.recording (kind_at m.place)) q plays)))
 
     module _ (kind : Kind) (is_of : kind_of_attempt old.catalogue of old.store.messages ≡ Some kind) where
       abbrev at_kind : KindFound old.catalogue of old.store.messages kind
@@ -349,7 +352,7 @@ module _ (old : HistoryView) (numbers : List ℕ) where
             (λ h m read found.
             and-false (is_due at m.place) _
             (and-false (is_new_attempt number h) _
-            (and-false (kind_eq (told (kind_at m.place)) (kind_at m.place)) _ (and-false (plays_inside h.catalogue m.recording (told (kind_at m.place))) _ (ap (bool_eq (is_some committed)) (outcome-is h m read found) ∙ e)))))
+            (and-false (kind_eq (told (kind_at m.place)) (kind_at m.place)) _ (and-false (is_playable h.catalogue m.recording (told (kind_at m.place))) _ (ap (bool_eq (is_some committed)) (outcome-is h m read found) ∙ e)))))
 
         ended-is : (c : Option Kind) → fits_kind c kind ≡ true → (o : Option Why) → a.why ≡ o → bool_eq (is_some c) (is_none o) ≡ true → fact_ended at a ≡ fact_read of number at c
         ended-is (Some k) fits None why e =
@@ -393,8 +396,8 @@ module _ (old : HistoryView) (numbers : List ℕ) where
                 let m = at_kind.message in
                 let found = at_kind.found in
                 let in_h : message_of of h.messages ≡ Some m = ap (message_of of) (sym read.is.messages) ∙ found in
-                let inside : plays_inside h.catalogue m.recording (told (kind_at m.place)) ≡ true =
-                subst (λ (k : Kind). plays_inside h.catalogue m.recording k ≡ true) (sym (told-kind m found ∙ a-kind)) (subst (λ (c : Catalogue). plays_inside c m.recording kind ≡ true) read.is.catalogue at_kind.inside)
+                let plays : is_playable h.catalogue m.recording (told (kind_at m.place)) ≡ true =
+                subst (λ (k : Kind). is_playable h.catalogue m.recording k ≡ true) (sym (told-kind m found ∙ a-kind)) (subst (λ (c : Catalogue). is_playable c m.recording kind ≡ true) read.is.catalogue at_kind.plays)
                 in
                 let kinds : kind_eq (told (kind_at m.place)) (kind_at m.place) ≡ true = subst (λ (k : Kind). kind_eq k (kind_at m.place) ≡ true) (sym (told-kind m found ∙ a-kind ∙ at_kind.kind)) (kind-itself (kind_at m.place)) in
                 end-goes h m in_h
@@ -402,4 +405,4 @@ module _ (old : HistoryView) (numbers : List ℕ) where
                 (and_from (is_due at m.place) _ (sym (ap due_by found) ∙ due)
                 (and_from (is_new_attempt number h) _ (ap not (ap (list_any (λ n. n == number)) (sym read.numbers) ∙ fresh))
                 (and_from (kind_eq (told (kind_at m.place)) (kind_at m.place)) _ kinds
-                (and_from (plays_inside h.catalogue m.recording (told (kind_at m.place))) _ inside (ap (bool_eq (is_some committed)) (outcome-is h m read found) ∙ same)))))
+                (and_from (is_playable h.catalogue m.recording (told (kind_at m.place))) _ plays (ap (bool_eq (is_some committed)) (outcome-is h m read found) ∙ same)))))

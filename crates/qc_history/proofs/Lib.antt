@@ -3,6 +3,7 @@ pub mod Aside
 pub mod Begins
 pub mod Follows
 pub mod Found
+pub mod Heard
 pub mod Kept
 pub mod Numbers
 pub mod Settled

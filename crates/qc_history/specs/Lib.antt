@@ -4,3 +4,4 @@ pub mod Stands
 pub mod Switches
 pub mod Taking
 pub mod View
+pub mod Votes

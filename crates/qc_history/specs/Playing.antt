@@ -9,19 +9,19 @@ use Rattle.qc_base.specs.declared.recording.Recording.{Recording}
 use Rattle.qc_base.specs.Messages.{message_of}
 use Rattle.qc_catalogue.specs.declared.catalogue.Catalogue.{Catalogue}
 use Rattle.qc_listener.specs.Choice.{kind_at}
-use Rattle.qc_machine.specs.History.{History, kind_eq, outcome_on, plays_inside, settled_amount}
+use Rattle.qc_machine.specs.History.{History, kind_eq, outcome_on, settled_amount}
 use Rattle.qc_rows.specs.Tables.{TableRows}
 use Rattle.qc_store.specs.Due.{is_queued}
 use Rattle.qc_txn.specs.Attempt.{AttemptView, PlaysBy, begun, effects_in}
 use Rattle.qc_txn.specs.Outcome.{ended, new_play, view_of}
-use Rattle.qc_txn.specs.Parts.{parts_of, rows_of_attempt}
+use Rattle.qc_txn.specs.Parts.{is_playable, parts_of, rows_of_attempt}
 use Rattle.qc_history.specs.Stands.{IsHistoryOf}
 use Rattle.qc_history.specs.View.{HistoryView}
 
--- the kind of an attempt on a message in the queues 0 to 5, where it can be played and changes nothing outside
+-- the kind of an attempt on a message in the queues 0 to 5, where it can be played
 
 abbrev pub kind_by : Catalogue → Recording → Place → Option Kind
-kind_by c r place = if is_queued place && plays_inside c r (kind_at place) then Some (kind_at place) else None
+kind_by c r place = if is_queued place && is_playable c r (kind_at place) then Some (kind_at place) else None
 
 abbrev pub kind_on : Catalogue → Message → Option Kind
 kind_on c m = kind_by c m.recording m.place
@@ -29,20 +29,22 @@ kind_on c m = kind_by c m.recording m.place
 abbrev pub kind_of_attempt : Catalogue → ℕ → List Message → Option Kind
 kind_of_attempt c id messages = option_and_then (kind_on c) (message_of id messages)
 
--- an attempt with a number on a message, which sees these amounts of its rows, before its first call
-abbrev pub begun_on : Catalogue → List TableRows → ℕ → Message → AttemptView
-begun_on c tables number m =
+-- an attempt with a number on a message, which sees these amounts of its rows, before its first call: there is room for
+-- the effects of all its calls
+abbrev pub begun_on : Catalogue → List TableRows → List TableRows → ℕ → Message → AttemptView
+begun_on c tables outside number m =
     begun m.id number (kind_at m.place) m.recording
-    (record { play = new_play (view_of (settled_amount tables) (rows_of_attempt c m.recording (kind_at m.place))); room = 0 })
+    (record {
+      play = new_play (view_of (settled_amount tables outside) (rows_of_attempt c m.recording (kind_at m.place)));
+      room = effects_in (parts_of c m.recording (kind_at m.place));
+    })
 
--- An attempt begins on the message of an id over the settled amounts. It can be played by the catalogue, and changes
--- nothing outside.
+-- An attempt begins on the message of an id over the settled amounts. It can be played by the catalogue.
 pub record BeginsOn (view : HistoryView) (of number : ℕ) (a : AttemptView) : Type 0 where
   pub message : Message
   pub found : message_of of view.store.messages ≡ Some message
-  pub is : a ≡ begun_on view.catalogue view.tables.tables number message
+  pub is : a ≡ begun_on view.catalogue view.tables.tables view.outside number message
   pub plays : PlaysBy view.catalogue a
-  pub inside : effects_in (parts_of view.catalogue a.recording a.kind) ≡ 0
 
 -- an attempt has ended as the outcome is of such attempts on its message
 abbrev pub HasOutcome : AttemptView → History → Type 0

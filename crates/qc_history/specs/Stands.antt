@@ -14,6 +14,7 @@ pub record IsHistoryOf (view : HistoryView) (h : History) : Type 0 where
   pub catalogue : view.catalogue ≡ h.catalogue
   pub messages : view.store.messages ≡ h.messages
   pub tables : view.tables.tables ≡ h.tables
+  pub outside : view.outside ≡ h.outside
   pub counted : view.facts ≡ length h.facts
   pub last : view.last ≡ h.last
   pub off : (name : List ℕ) → is_among name view.off.names ≡ not (is_on name h)

@@ -6,6 +6,7 @@ use Rattle.qc_catalogue.specs.declared.catalogue.Catalogue.{Catalogue}
 use Rattle.qc_listener.specs.Choice.{IsKept}
 use Rattle.qc_listener.specs.Index.{MessageRows, entry_of}
 use Rattle.qc_rows.specs.Places.{TablesView}
+use Rattle.qc_rows.specs.Tables.{TableRows}
 use Rattle.qc_store.specs.Stored.{Stored}
 use Rattle.qc_history.specs.Switches.{OffView}
 
@@ -14,6 +15,8 @@ pub record HistoryView : Type 0 where
   pub catalogue : Catalogue
   pub store : Stored
   pub tables : TablesView
+  -- the resources with the amounts that are settled for their rows
+  pub outside : List TableRows
   -- the rows that attempts on messages would have
   pub rows : List MessageRows
   -- the applications that are off

@@ -9,6 +9,7 @@ ghost use Rattle.qc_history.specs.Taking.{TakesFact};
 
 use crate::history::History;
 use crate::places::{is_due, is_same};
+use crate::votes::vote_all;
 use qc_base::{Kind, Moment, NoMemory};
 use qc_txn::Attempt;
 use std::alloc::Global;
@@ -76,13 +77,15 @@ impl History {
         }
     }
 
-    // The attempt with this number on the message of an id, as it ends over the settled amounts.
+    // The attempt with this number on the message of an id, as it ends over the settled amounts, after the votes of the
+    // resources that it changed.
     fn play_again(&self, alloc: Global, id: u64, number: u64) -> Result<Attempt, NoMemory>
         requires { is_some (kind_of_attempt self.now.catalogue id self.now.store.messages) ≡ true }
         ensures { IfOk result (λ a. IsPlayedAgain self.now id number a) }
     {
         let mut attempt = self.begin(alloc, id, number)?;
         attempt.run_left(self.catalogue());
+        vote_all(alloc, self.catalogue(), &mut attempt)?;
         let _ = attempt.decide();
         Ok(attempt)
     }

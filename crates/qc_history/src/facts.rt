@@ -8,7 +8,7 @@ use crate::history::History;
 use qc_base::{Fact, Kind, Moment, Name, NoMemory, Recording};
 use qc_catalogue::{Catalogue, CatalogueError, lists_stand_in_order};
 use qc_recorder::fits;
-use qc_rows::Tables;
+use qc_rows::{OutsideAmounts, Tables};
 use std::alloc::Global;
 
 impl History {
@@ -60,18 +60,20 @@ impl History {
         };
         lists_stand_in_order();
         let tables = Tables::make(alloc, &catalogue)?;
-        self.begin_with(catalogue, tables);
+        let outside = OutsideAmounts::make(alloc, &catalogue)?;
+        self.begin_with(catalogue, tables, outside);
         Ok(true)
     }
 
-    // The first fact is settled: the catalogue of these tables.
-    fn begin_with(&mut self, catalogue: Catalogue, tables: Tables)
+    // The first fact is settled: the catalogue that opens these tables and resources.
+    fn begin_with(&mut self, catalogue: Catalogue, tables: Tables, outside: OutsideAmounts)
         requires { self.old.facts ≡ 0 }
         ensures none { self.old.store.messages ≡ [] }
-        ensures is { self.new ≡ record self.old { catalogue = catalogue; tables = tables; facts = 1 } }
+        ensures is { self.new ≡ record self.old { catalogue = catalogue; tables = tables; outside = outside; facts = 1 } }
     {
         self.catalogue = catalogue;
         self.tables = tables;
+        self.outside = outside;
         self.facts = 1;
     }
 

@@ -8,19 +8,20 @@ use crate::switches::Switches;
 use qc_base::{Moment, Name, NoMemory};
 use qc_catalogue::{Catalogue, Entries};
 use qc_listener::RowIndex;
-use qc_rows::Tables;
+use qc_rows::{OutsideAmounts, Tables};
 use qc_store::Store;
 use std::alloc::Global;
 use std::marker::Model;
 
 /// What the facts so far have settled (docs/RULES.md, "Histories"). Contracts see the catalogue in force, the messages,
-/// the tables, the rows that attempts on messages would have, which applications are off, how many facts there are, the
-/// moment of the last one, and the greatest number of an attempt.
+/// the tables, the amounts that are settled for outside rows, the rows that attempts on messages would have, which
+/// applications are off, how many facts there are, the moment of the last one, and the greatest number of an attempt.
 #[derive(Debug, Drop)]
 pub struct History {
     pub(crate) catalogue: Catalogue,
     pub(crate) store: Store,
     pub(crate) tables: Tables,
+    pub(crate) outside: OutsideAmounts,
     pub(crate) rows: RowIndex,
     pub(crate) off: Switches,
     pub(crate) facts: u64,
@@ -37,6 +38,7 @@ impl Model for History {
       catalogue = h.catalogue;
       store = h.store;
       tables = h.tables;
+      outside = h.outside;
       rows = h.rows;
       off = h.off;
       facts = h.facts;
@@ -68,6 +70,7 @@ impl History {
             catalogue: empty_catalogue(alloc),
             store,
             tables: Tables::none(alloc),
+            outside: OutsideAmounts::none(alloc),
             rows,
             off: Switches::make(alloc),
             facts: 0,
@@ -95,6 +98,13 @@ impl History {
         ensures { result.now ≡ self.now.tables }
     {
         &self.tables
+    }
+
+    /// The amounts that are settled for outside rows.
+    pub fn outside(&self) -> &OutsideAmounts
+        ensures { result.now ≡ self.now.outside }
+    {
+        &self.outside
     }
 
     /// The rows that attempts on messages would have. Those of each message in the queues 0 to 5 are kept.

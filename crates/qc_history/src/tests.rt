@@ -2,7 +2,7 @@ ghost use Rattle.std.specs.Prelude.{◌≡◌, true, IfOk};
 ghost use Rattle.qc_base.specs.Spelling.{is_fact};
 
 use crate::History;
-use qc_base::{Fact, Name, NoMemory, Recording, Text};
+use qc_base::{Fact, Name, NoMemory, Space, Text};
 use qc_catalogue::sample;
 use qc_journal::read_fact;
 use std::alloc::Global;
@@ -39,17 +39,25 @@ fn in_force(alloc: Global, catalogue: &[u8]) -> Result<Vec<u8>, NoMemory> {
     Ok(bytes)
 }
 
-// A message was sent that takes so many bolts out of stock.
-fn sent(alloc: Global, id: u64, bolts: u64, at: u64) -> Result<Vec<u8>, NoMemory> {
+// The spelling of recordings with one call, up to its last argument, a number.
+const TAKE: &str = "\u{6}Orders\u{5}Plain\u{1}\u{4}Take\u{2}\u{1}\u{4}bolt\u{2}";
+
+const PLACE_BOLTS: &str = "\u{6}Orders\u{5}Order\u{1}\u{5}Place\u{2}\u{1}\u{4}bolt\u{2}";
+
+const PLACE_NUTS: &str = "\u{6}Orders\u{5}Order\u{1}\u{5}Place\u{2}\u{1}\u{3}nut\u{2}";
+
+const UNDO: &str = "\u{6}Orders\u{5}Plain\u{1}\u{4}Undo\u{1}\u{2}";
+
+// A message was sent with such a recording.
+fn sent(alloc: Global, id: u64, call: &[u8], number: u64, at: u64) -> Result<Vec<u8>, NoMemory> {
+    let length = u16::try_from(call.len().saturating_add(8)).map_err(|_| NoMemory)?;
     let mut bytes = Vec::new(alloc);
     put(&mut bytes, &[2])?;
     put(&mut bytes, &id.to_be_bytes())?;
     put(&mut bytes, &at.to_be_bytes())?;
-    put(
-        &mut bytes,
-        b"\x00\x23\x06Orders\x05Plain\x01\x04Take\x02\x01\x04bolt\x02",
-    )?;
-    put(&mut bytes, &bolts.to_be_bytes())?;
+    put(&mut bytes, &length.to_be_bytes())?;
+    put(&mut bytes, call)?;
+    put(&mut bytes, &number.to_be_bytes())?;
     Ok(bytes)
 }
 
@@ -115,17 +123,14 @@ fn takes(
     }
 }
 
-fn amount(history: &History, table: &str, key: &str) -> Result<u64, NoMemory> {
-    Ok(history.tables().amount(&name(table)?, &text(key)?))
-}
-
-// A fact as a row of the tables below tells it: with id, bolts and moment; with id, number and moment, where a
-// committed attempt may be a final one; or with the application's name behind its length, and the moment, where
-// messages are moved with the queue and their ids between.
+// A fact as a row of the tables below tells it: with id, bolts and moment, or with id, call, its number and moment;
+// with id, number and moment, where a committed attempt may be a final one; or with the application's name behind its
+// length, and the moment, where messages are moved with the queue and their ids between.
 #[derive(Clone, Copy)]
 enum Told {
     InForce,
     Sent(u64, u64, u64),
+    Called(u64, &'static str, u64, u64),
     Committed(u64, u64, u64),
     Final(u64, u64, u64),
     Failed(u64, u64, u64),
@@ -136,7 +141,8 @@ enum Told {
 fn spelled(alloc: Global, catalogue: &str, told: Told) -> Result<Vec<u8>, NoMemory> {
     match told {
         Told::InForce => in_force(alloc, catalogue.as_bytes()),
-        Told::Sent(id, bolts, at) => sent(alloc, id, bolts, at),
+        Told::Sent(id, bolts, at) => sent(alloc, id, TAKE.as_bytes(), bolts, at),
+        Told::Called(id, call, number, at) => sent(alloc, id, call.as_bytes(), number, at),
         Told::Committed(id, number, at) => ended(alloc, Some(1), id, number, at),
         Told::Final(id, number, at) => ended(alloc, Some(2), id, number, at),
         Told::Failed(id, number, at) => ended(alloc, None, id, number, at),
@@ -240,6 +246,43 @@ const LAST_FACTS: &[(Told, bool)] = &[
     (Told::Moved("\u{6}Orders", 0, &[1], 5580), false),
 ];
 
+const LAST_AMOUNTS: &[Wanted] = &[
+    (Space::Inside, "stock", "bolt", Some(10)),
+    (Space::Inside, "lost", "bolt", Some(11)),
+    (Space::Inside, "finals", "count", Some(1)),
+];
+
+// Attempts that change the drawer, which has 100 at first and at most 110. The orders are for nuts, of which there are
+// 3, and bolts, of which there are 10. The undo passes the bound by a change that it takes back, and adds 1.
+const OUTSIDE_FACTS: &[(Told, bool)] = &[
+    (Told::InForce, true),
+    (Told::Called(1, PLACE_NUTS, 3, 0), true),
+    (Told::Failed(1, 1, 0), false),
+    (Told::Committed(1, 1, 0), true),
+    (Told::Called(2, PLACE_BOLTS, 8, 0), true),
+    (Told::Committed(2, 2, 0), false),
+    (Told::Failed(2, 2, 0), true),
+    (Told::Called(3, UNDO, 20, 0), true),
+    (Told::Failed(3, 3, 0), false),
+    (Told::Committed(3, 3, 0), true),
+    (Told::Called(4, PLACE_BOLTS, 6, 0), true),
+    (Told::Failed(4, 4, 0), false),
+    (Told::Committed(4, 4, 0), true),
+    (Told::Called(5, UNDO, 0, 0), true),
+    (Told::Committed(5, 5, 0), false),
+    (Told::Failed(5, 5, 0), true),
+    (Told::Sent(6, 1, 0), true),
+];
+
+const OUTSIDE_AMOUNTS: &[Wanted] = &[
+    (Space::Outside, "till", "drawer", Some(110)),
+    (Space::Outside, "post", "letters", Some(0)),
+    (Space::Outside, "till", "letters", None),
+    (Space::Inside, "stock", "bolt", Some(4)),
+    (Space::Inside, "sold", "nut", Some(3)),
+    (Space::Inside, "till", "drawer", Some(0)),
+];
+
 // The first row that isn't taken as it tells, or the number of rows.
 fn taken_as_told(
     alloc: Global,
@@ -258,6 +301,53 @@ fn taken_as_told(
     Ok(facts.len())
 }
 
+// A row with the amount that it is to have, where it is to be there. An inside row is there always.
+type Wanted = (Space, &'static str, &'static str, Option<u64>);
+
+fn settled(history: &History, row: &Wanted) -> Result<Option<u64>, NoMemory> {
+    let table = name(row.1)?;
+    let key = text(row.2)?;
+    match row.0 {
+        Space::Inside => Ok(Some(history.tables().amount(&table, &key))),
+        Space::Outside => match history.outside().amount(&table, &key) {
+            Some(amount) => Ok(Some(amount.get())),
+            None => Ok(None),
+        },
+    }
+}
+
+// The first row that hasn't the wanted amount, or the number of rows.
+fn settled_as_wanted(history: &History, rows: &[Wanted]) -> Result<usize, NoMemory> {
+    for index in 0..rows.len() {
+        if settled(history, &rows[index])? != rows[index].3 {
+            return Ok(index);
+        }
+    }
+    Ok(rows.len())
+}
+
+// Each message with whether an attempt on it can be played, and whether that one changes nothing outside.
+const ATTEMPTS: &[(u64, bool, bool)] = &[
+    (1, false, false),
+    (2, true, false),
+    (6, true, true),
+    (7, false, false),
+];
+
+// The first row that doesn't tell what the history does, or the number of rows.
+fn attempts_as_told(history: &History, rows: &[(u64, bool, bool)]) -> usize {
+    for index in 0..rows.len() {
+        let (id, playable, inside) = rows[index];
+        if history.kind_of_attempt(id).is_some() != playable {
+            return index;
+        }
+        if history.plays_inside(id) != inside {
+            return index;
+        }
+    }
+    rows.len()
+}
+
 #[test]
 fn facts_are_taken_where_they_may_follow(rt: HostRuntime) -> Result<(), Fail> {
     let alloc = rt.alloc();
@@ -266,7 +356,10 @@ fn facts_are_taken_where_they_may_follow(rt: HostRuntime) -> Result<(), Fail> {
         taken_as_told(alloc, &mut history, sample(), FACTS)?,
         FACTS.len()
     );
-    assert_eq!(rt; amount(&history, "stock", "bolt")?, 5);
+    assert_eq!(rt;
+        settled_as_wanted(&history, &[(Space::Inside, "stock", "bolt", Some(5))])?,
+        1
+    );
     Ok(())
 }
 
@@ -278,8 +371,25 @@ fn a_last_attempt_is_taken_after_eighteen_failures(rt: HostRuntime) -> Result<()
         taken_as_told(alloc, &mut history, LAST, LAST_FACTS)?,
         LAST_FACTS.len()
     );
-    assert_eq!(rt; amount(&history, "stock", "bolt")?, 10);
-    assert_eq!(rt; amount(&history, "lost", "bolt")?, 11);
-    assert_eq!(rt; amount(&history, "finals", "count")?, 1);
+    assert_eq!(rt;
+        settled_as_wanted(&history, LAST_AMOUNTS)?,
+        LAST_AMOUNTS.len()
+    );
+    Ok(())
+}
+
+#[test]
+fn outside_rows_are_settled_where_their_resources_are_ready(rt: HostRuntime) -> Result<(), Fail> {
+    let alloc = rt.alloc();
+    let mut history = History::make(alloc)?;
+    assert_eq!(rt;
+        taken_as_told(alloc, &mut history, sample(), OUTSIDE_FACTS)?,
+        OUTSIDE_FACTS.len()
+    );
+    assert_eq!(rt;
+        settled_as_wanted(&history, OUTSIDE_AMOUNTS)?,
+        OUTSIDE_AMOUNTS.len()
+    );
+    assert_eq!(rt; attempts_as_told(&history, ATTEMPTS), ATTEMPTS.len());
     Ok(())
 }

@@ -37,12 +37,12 @@ sets-more u v w first second = record {
 pub same-history : (v w : HistoryView) (h : History) → SetsAside v w → IsHistoryOf v h → IsHistoryOf w h
 same-history v w h aside is =
     subst (λ (x : HistoryView). IsHistoryOf x h) (sym aside.kept)
-    (record { catalogue = is.catalogue; messages = is.messages; tables = is.tables; counted = is.counted; last = is.last; off = is.off; attempt = is.attempt })
+    (record { catalogue = is.catalogue; messages = is.messages; tables = is.tables; outside = is.outside; counted = is.counted; last = is.last; off = is.off; attempt = is.attempt })
 
 pub was-history : (v w : HistoryView) (h : History) → SetsAside v w → IsHistoryOf w h → IsHistoryOf v h
 was-history v w h aside is =
     let k = subst (λ (x : HistoryView). IsHistoryOf x h) aside.kept is in
-    record { catalogue = k.catalogue; messages = k.messages; tables = k.tables; counted = k.counted; last = k.last; off = k.off; attempt = k.attempt }
+    record { catalogue = k.catalogue; messages = k.messages; tables = k.tables; outside = k.outside; counted = k.counted; last = k.last; off = k.off; attempt = k.attempt }
 
 pub same-catalogue : (v w : HistoryView) → SetsAside v w → w.catalogue ≡ v.catalogue
 same-catalogue v w aside = ap (λ (x : HistoryView). x.catalogue) aside.kept

@@ -1,7 +1,11 @@
 -- The message that is taken, and why none is.
 use Rattle.std.proofs.Common.{◌≡◌, ◌∙◌, ℕ, ◌==◌, List, [], ◌∷◌, ◌++◌, Bool, true, false, not, cond, ◌&&◌, length, filter, is_none, refl, sym, ap, subst, Option, Some, None, option_map, option_and_then, eqb-true, is_some, Ok, Err}
+use Rattle.std.specs.Option.{option_map_or}
 use Rattle.std.proofs.lemmas.Bool.{not-false}
 use Rattle.qc_base.specs.declared.message.Message.{Message}
+use Rattle.qc_base.specs.declared.fact.Place.{Place}
+use Rattle.qc_base.specs.declared.fact.Place.TheVariants.{Queue, Dead, Consumed}
+use Rattle.qc_base.specs.Messages.{is_consumed}
 use Rattle.qc_base.specs.Spelling.{is_attempt}
 use Rattle.qc_protocol.specs.declared.order.Act.TheVariants.{Take}
 use Rattle.qc_protocol.specs.declared.reply.Refusal.{Refusal}
@@ -19,6 +23,7 @@ use Rattle.qc_players.specs.Players.{SameHoldings, holdings_in, players_of}
 use Rattle.qc_players.proofs.Holdings.{free-same}
 use Rattle.qc_rows.specs.Holdings.{Holding}
 use Rattle.qc_store.specs.Due.{is_before, is_queued, first_by, queued_messages}
+use Rattle.qc_store.specs.Live.{live_message, unless_consumed}
 use Rattle.qc_store.specs.Stored.{Stored}
 use Rattle.qc_txn.specs.Parts.{is_playable, parts_of, rows_of_attempt}
 use Rattle.qc_players.proofs.Quiet.{quiet-room}
@@ -168,39 +173,54 @@ module _ (hub : Hub) (s : State) (h : IsHubOf hub s) (n : ℕ) (app : List ℕ) 
 
 -- why an attempt on the message isn't begun, or its number
 
-found-wait : (c : Catalogue) (m : Message) (b : Bool) → is_queued m.place ≡ b → b ≡ true → kind_on c m ≡ cond (plays_inside c m.recording (kind_at m.place)) (Some (kind_at m.place)) None
-found-wait c m b e true_ = ap (λ (x : Bool). cond (x && plays_inside c m.recording (kind_at m.place)) (Some (kind_at m.place)) None) (e ∙ true_)
+found-wait : (c : Catalogue) (m : Message) (b : Bool) → is_queued m.place ≡ b → b ≡ true → kind_on c m ≡ cond (is_playable c m.recording (kind_at m.place)) (Some (kind_at m.place)) None
+found-wait c m b e true_ = ap (λ (x : Bool). cond (x && is_playable c m.recording (kind_at m.place)) (Some (kind_at m.place)) None) (e ∙ true_)
 
-kind-is : (c : Catalogue) (m : Message) → is_queued m.place ≡ true → is_some (kind_on c m) ≡ can_play c m
-kind-is c m queued = ap is_some (found-wait c m true queued refl) ∙ by (plays_inside c m.recording (kind_at m.place))
+kind-is : (c : Catalogue) (m : Message) → is_queued m.place ≡ true → is_some (kind_on c m) ≡ is_playable c m.recording (kind_at m.place)
+kind-is c m queued = ap is_some (found-wait c m true queued refl) ∙ by (is_playable c m.recording (kind_at m.place))
   where
     by : (b : Bool) → is_some (cond b (Some (kind_at m.place)) None) ≡ b
     by true = refl
     by false = refl
 
+-- what stands in a queue isn't consumed
+queued-live : (place : Place) → is_queued place ≡ true → is_consumed place ≡ false
+queued-live (Queue queue tries due) e = refl
+queued-live Dead e = refl
+queued-live (Consumed attempt) e = sym e
+
 module _ (hub : Hub) (s : State) (h : IsHubOf hub s) (app : List ℕ) (m : Message) (id : ℕ) (taken : chosen_message s app ≡ Some m) (same : m.id ≡ id) where
   picked : IsChosen s m
   picked = chosen-is s app m (settled-orderly by_text s h.settled) taken
 
-  can-here : is_some (kind_of_attempt hub.history.catalogue id hub.history.store.messages) ≡ can_play s.history.catalogue m
-  can-here =
+  kind-here : is_some (kind_of_attempt hub.history.catalogue id hub.history.store.messages) ≡ is_playable s.history.catalogue m.recording (kind_at m.place)
+  kind-here =
       (λ i. is_some (kind_of_attempt (h.history.catalogue i) (sym same i) (h.history.messages i)))
       ∙ ap (λ (o : Option Message). is_some (option_and_then (kind_on s.history.catalogue) o)) picked.found
       ∙ kind-is s.history.catalogue m (due-queued s.last m.place picked.due)
 
-  can-play : unplayed s m ≡ None → can_play s.history.catalogue m ≡ true
+  abbrev pub built_here : Bool
+  built_here = option_map_or (can_play hub.history.catalogue) (live_message id hub.history.store.messages) false
+
+  can-here : built_here ≡ can_play s.history.catalogue m
+  can-here =
+      (λ i. option_map_or (can_play (h.history.catalogue i)) (live_message (sym same i) (h.history.messages i)) false)
+      ∙ ap (λ (o : Option Message). option_map_or (can_play s.history.catalogue) (option_and_then unless_consumed o) false) picked.found
+      ∙ ap (λ (b : Bool). option_map_or (can_play s.history.catalogue) (cond b None (Some m)) false) (queued-live m.place (due-queued s.last m.place picked.due))
+
+  pub can-play : unplayed s m ≡ None → can_play s.history.catalogue m ≡ true
   can-play free = not-false _ (not-refused (not (can_play s.history.catalogue m)) NotBuilt (none-first (refuse_if (not (can_play s.history.catalogue m)) NotBuilt) (take_full s m ∷ []) free).0)
 
   pub playable : unplayed s m ≡ None → is_playable s.history.catalogue m.recording (kind_at m.place) ≡ true
   playable free = and-left (is_playable s.history.catalogue m.recording (kind_at m.place)) _ (can-play free)
 
   pub kind-there : unplayed s m ≡ None → is_some (kind_of_attempt hub.history.catalogue id hub.history.store.messages) ≡ true
-  kind-there free = can-here ∙ can-play free
+  kind-there free = kind-here ∙ playable free
 
-  pub not-built : is_some (kind_of_attempt hub.history.catalogue id hub.history.store.messages) ≡ false → Numbers s m (Err NotBuilt)
+  pub not-built : built_here ≡ false → Numbers s m (Err NotBuilt)
   not-built e = ap (λ (b : Bool). first_some (refuse_if (not b) NotBuilt ∷ take_full s m ∷ [])) (sym can-here ∙ e)
 
-  module _ (built : is_some (kind_of_attempt hub.history.catalogue id hub.history.store.messages) ≡ true) where
+  module _ (built : built_here ≡ true) where
     can : can_play s.history.catalogue m ≡ true
     can = sym can-here ∙ built
 

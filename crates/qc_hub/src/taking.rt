@@ -128,7 +128,7 @@ impl Hub {
         ensures { (s : State) (app : List ℕ) (m : Message) → IsHubOf self.now s → chosen_message s app ≡ Some m
             → m.id ≡ id → Numbers s m result }
     {
-        if self.history.kind_of_attempt(id).is_none() {
+        if !self.history.plays_inside(id) {
             return Err(Refusal::NotBuilt);
         }
         if let Some(full) = self.journal_full(FACT_ROOM) {

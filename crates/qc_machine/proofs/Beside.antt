@@ -42,7 +42,7 @@ rows_held h a = rows_of_attempt h.catalogue a.recording a.kind
 pub record IsAside (h now : History) (a : HeldAttempt) : Type 0 where
   pub catalogue : now.catalogue ≡ h.catalogue
   pub message : (m : Message) → message_of a.id h.messages ≡ Some m → message_of a.id now.messages ≡ Some m
-  pub amounts : (r : Row) → has_row (rows_held h a) r ≡ true → settled_amount now.tables r ≡ settled_amount h.tables r
+  pub amounts : (r : Row) → has_row (rows_held h a) r ≡ true → settled_amount now.tables now.outside r ≡ settled_amount h.tables h.outside r
   pub new : is_new_attempt a.attempt now ≡ is_new_attempt a.attempt h
   pub about : list_all (is_about a.attempt a.id) h.facts ≡ true → list_all (is_about a.attempt a.id) now.facts ≡ true
 
@@ -55,8 +55,8 @@ module _ (h now : History) (a : HeldAttempt) (aside : IsAside h now a) where
 
   play-aside : first_play now a ≡ first_play h a
   play-aside =
-      ap (λ rows. new_play (view_of (settled_amount now.tables) rows)) rows-aside
-      ∙ ap (λ v. new_play v) (view-same (settled_amount h.tables) (settled_amount now.tables) (rows_held h a) aside.amounts)
+      ap (λ rows. new_play (view_of (settled_amount now.tables now.outside) rows)) rows-aside
+      ∙ ap (λ v. new_play v) (view-same (settled_amount h.tables h.outside) (settled_amount now.tables now.outside) (rows_held h a) aside.amounts)
 
   pub held-aside : (last later : ℕ) → last ≤ later → IsHeldIn h last a → IsHeldIn now later a
   held-aside last later le is = record {
@@ -153,7 +153,7 @@ found-map id f (m ∷ ms) h k = by (m.id == id) refl (found-map id f ms h k)
 -- a fact of no attempt that leaves the attempt's message and the amounts of its rows as they are
 pub fact-aside : (h : History) (f : Fact) (a : HeldAttempt) → is_of_attempt a.attempt f ≡ false → (with_fact f h).catalogue ≡ h.catalogue
     → ((m : Message) → message_of a.id h.messages ≡ Some m → message_of a.id (with_fact f h).messages ≡ Some m)
-    → ((r : Row) → has_row (rows_held h a) r ≡ true → settled_amount (with_fact f h).tables r ≡ settled_amount h.tables r) → IsAside h (with_fact f h) a
+    → ((r : Row) → has_row (rows_held h a) r ≡ true → settled_amount (with_fact f h).tables (with_fact f h).outside r ≡ settled_amount h.tables h.outside r) → IsAside h (with_fact f h) a
 fact-aside h f a other same found amounts = record {
   catalogue = same;
   message = found;

@@ -2,7 +2,7 @@
 use Rattle.std.proofs.Common.{◌≡◌, ◌∙◌, ℕ, ◌==◌, List, [], ◌∷◌, Bool, true, false, not, cond, ◌||◌, refl, sym, ap, true≢false, Option, Some, None, is_none, eq-eqb, eqb-true, filter_map}
 use Rattle.std.specs.List.{list_any, list_all, cons_option}
 use Rattle.std.specs.Option.{option_map_or}
-use Rattle.std.proofs.lemmas.Bool.{and_from, or_parts, or_left, or_right, cond-true, cond-false, not-true, eqb-false, false_from_ne_true}
+use Rattle.std.proofs.lemmas.Bool.{and_from, and_parts, or_parts, or_left, or_right, cond-true, cond-false, not-true, eqb-false, false_from_ne_true}
 use Rattle.qc_base.specs.declared.message.Message.{Message}
 use Rattle.qc_base.specs.declared.fact.Fact.{Fact}
 use Rattle.qc_base.specs.declared.fact.Fact.TheVariants.{Catalogue as InForce, Sent, Played, Failed, Moved, Switched}
@@ -25,17 +25,19 @@ use Rattle.qc_catalogue.specs.declared.catalogue.Catalogue.{Catalogue}
 use Rattle.qc_play.specs.Play.{Play, Seen, Ran, ran, failed_at, run_call, rows_in}
 use Rattle.qc_play.proofs.Playing.{call_rows}
 use Rattle.qc_play.proofs.RowNames.{row-flip}
+use Rattle.qc_rows.specs.Outside.{outside_amount, outside_by}
 use Rattle.qc_rows.specs.Settling.{is_inside, settled_by, settled_one}
 use Rattle.qc_rows.specs.Tables.{TableRows, row_amount}
 use Rattle.qc_rows.proofs.Settling.{one-other}
 use Rattle.qc_txn.specs.Outcome.{PlayedAll, Outcome, all_played, stopped_at, commits, fails, decision, ended, new_play, not_ready, play_all, view_of, why_by}
-use Rattle.qc_txn.specs.Parts.{Part, parts_of, rows_of_attempt}
+use Rattle.qc_txn.specs.Parts.{Part, is_playable, parts_of, rows_of_attempt}
 use Rattle.qc_listener.specs.Choice.{is_due, kind_at}
-use Rattle.qc_machine.specs.History.{Reader, History, with_fact, settled_amount, outcome_on, tables_after, committed_tables, attempt_of, is_new_attempt, kind_eq, is_commit, bool_eq, plays_inside, may_end, may_end_on, kind_of, is_later, may_follow}
+use Rattle.qc_machine.specs.History.{Reader, History, with_fact, settled_amount, outcome_on, rows_after, committed_tables, committed_outside, attempt_of, is_new_attempt, kind_eq, is_commit, bool_eq, may_end, may_end_on, kind_of, is_later, may_follow}
 use Rattle.qc_machine.specs.Holding.{has_row, is_about, IsOpen, IsReady, IsFailing, HasFact, IsHeldIn, AreApart}
 use Rattle.qc_machine.specs.Playing.{fact_of_end, ended_attempt, why_ended}
 use Rattle.qc_machine.specs.State.{HeldAttempt}
 use Rattle.qc_machine.proofs.Beside.{IsAside, fact-aside, is_of_attempt, new-push, found-map, about-after}
+use Rattle.qc_machine.proofs.Resources.{outside-other}
 
 -- the rows of a view as its calls run
 
@@ -60,12 +62,16 @@ others-stay (s ∷ view) tables r inside other =
     let parts = or_parts (row_eq r s.0) _ other in
     others-stay view (settled_one s tables) r inside parts.1 ∙ one-other s r tables inside (row-flip r s.0 false parts.0)
 
-pub settled-other : (view : List Seen) (tables : List TableRows) (r : Row) → has_row (rows_in view) r ≡ false → settled_amount (settled_by view tables) r ≡ settled_amount tables r
-settled-other view tables r other = by r.space refl
+pub settled-other : (view : List Seen) (tables outside : List TableRows) (r : Row) → has_row (rows_in view) r ≡ false
+    → settled_amount (settled_by view tables) (outside_by view outside) r ≡ settled_amount tables outside r
+settled-other view tables outside r other = by r.space refl
   where
-    by : (space : Space) → r.space ≡ space → ◌≡◌ {A = Option ℕ} (elim space [ Inside ↦ Some (row_amount (settled_by view tables) r) | Outside ↦ None ]) (elim space [ Inside ↦ Some (row_amount tables r) | Outside ↦ None ])
+    amount_by : Space → List TableRows → List TableRows → Option ℕ
+    amount_by space tables outside = elim space [ Inside ↦ Some (row_amount tables r) | Outside ↦ outside_amount outside r.name r.key ]
+
+    by : (space : Space) → r.space ≡ space → amount_by space (settled_by view tables) (outside_by view outside) ≡ amount_by space tables outside
     by Inside e = ap Some (others-stay view tables r (ap (λ x. space_eq x Inside) e) other)
-    by Outside e = refl
+    by Outside e = outside-other view outside r e other
 
 -- how an attempt ends is what its stage says
 
@@ -126,15 +132,16 @@ end-follows read h last a id moment later is over = by (why_ended h.catalogue a)
     o : IsOpen h last a is.message
     o = ends-open h last a is.message a.stage over
 
-    plays : (kind : Kind) → a.kind ≡ kind → plays_inside h.catalogue is.message.recording kind ≡ true
-    plays kind e = (λ i. plays_inside h.catalogue (sym is.recording i) (sym e i)) ∙ is.inside
+    plays : (kind : Kind) → a.kind ≡ kind → is_playable h.catalogue is.message.recording kind ≡ true
+    plays kind e =
+        (λ i. is_playable h.catalogue (sym is.recording i) (sym e i)) ∙ (and_parts (is_playable h.catalogue a.recording a.kind) _ is.inside).0
 
     ends : (kind : Kind) (committed : Bool) → a.kind ≡ kind → bool_eq committed (is_commit (outcome_on h kind is.message)) ≡ true → may_end h a.id a.attempt last kind committed ≡ true
     ends kind committed e out =
         ap (λ x. option_map_or (may_end_on h a.attempt last kind committed) x false) is.found
         ∙ and_from (is_due last is.message.place) _ o.due (and_from (is_new_attempt a.attempt h) _ o.new
         (and_from (kind_eq kind (kind_at is.message.place)) _ (ap (λ k. kind_eq k (kind_at is.message.place)) (sym e ∙ o.kind) ∙ kind-itself (kind_at is.message.place))
-        (and_from (plays_inside h.catalogue is.message.recording kind) _ (plays kind e) out)))
+        (and_from (is_playable h.catalogue is.message.recording kind) _ (plays kind e) out)))
 
     kind-found : kind_of a.id h ≡ a.kind
     kind-found = ap (λ x. option_map_or (λ (m : Message). kind_at m.place) x Normal) is.found ∙ sym o.kind
@@ -242,20 +249,31 @@ ended-held h last a None is o = record {
 -- and of others
 
 committed-other : (h : History) (kind : Kind) (id : ℕ) (m : Message) (r : Row) → message_of id h.messages ≡ Some m → has_row (rows_of_attempt h.catalogue m.recording kind) r ≡ false
-    → settled_amount (committed_tables h kind id) r ≡ settled_amount h.tables r
-committed-other h kind id m r found other =
-    ap (λ o. settled_amount (option_map_or (λ (m : Message). tables_after (outcome_on h kind m) h.tables) o h.tables) r) found
-    ∙ played (play_all (parts_of h.catalogue m.recording kind) (new_play (view_of (settled_amount h.tables) (rows_of_attempt h.catalogue m.recording kind)))) refl
+    → settled_amount (committed_tables h kind id) (committed_outside h kind id) r ≡ settled_amount h.tables h.outside r
+committed-other h kind id m r found other = ap by_message found ∙ played (play_all (parts_of h.catalogue m.recording kind) first) refl
   where
-    decided : (play : Play) (o : Option Why) → rows_in play.view ≡ rows_of_attempt h.catalogue m.recording kind → settled_amount (tables_after (ended play o) h.tables) r ≡ settled_amount h.tables r
-    decided play (Some why) rows = refl
-    decided play None rows = settled-other play.view h.tables r (ap (λ l. has_row l r) rows ∙ other)
+    mine : List Row
+    mine = rows_of_attempt h.catalogue m.recording kind
 
-    played : (p : PlayedAll) → play_all (parts_of h.catalogue m.recording kind) (new_play (view_of (settled_amount h.tables) (rows_of_attempt h.catalogue m.recording kind))) ≡ p
-        → settled_amount (tables_after (outcome_by h.catalogue p) h.tables) r ≡ settled_amount h.tables r
+    first : Play
+    first = new_play (view_of (settled_amount h.tables h.outside) mine)
+
+    after : Outcome → Option ℕ
+    after o = settled_amount (rows_after settled_by o h.tables) (rows_after outside_by o h.outside) r
+
+    by_message : Option Message → Option ℕ
+    by_message o = settled_amount
+        (option_map_or (λ (m : Message). rows_after settled_by (outcome_on h kind m) h.tables) o h.tables)
+        (option_map_or (λ (m : Message). rows_after outside_by (outcome_on h kind m) h.outside) o h.outside) r
+
+    decided : (play : Play) (o : Option Why) → rows_in play.view ≡ mine → after (ended play o) ≡ settled_amount h.tables h.outside r
+    decided play (Some why) rows = refl
+    decided play None rows = settled-other play.view h.tables h.outside r (ap (λ l. has_row l r) rows ∙ other)
+
+    played : (p : PlayedAll) → play_all (parts_of h.catalogue m.recording kind) first ≡ p → after (outcome_by h.catalogue p) ≡ settled_amount h.tables h.outside r
     played (all_played play) e =
-        let same = played-on (parts_of h.catalogue m.recording kind) (new_play (view_of (settled_amount h.tables) (rows_of_attempt h.catalogue m.recording kind))) play e in
-        decided play (why_by play.forced (not_ready h.catalogue play.records)) (same ∙ rows-of-view (settled_amount h.tables) (rows_of_attempt h.catalogue m.recording kind))
+        let same = played-on (parts_of h.catalogue m.recording kind) first play e in
+        decided play (why_by play.forced (not_ready h.catalogue play.records)) (same ∙ rows-of-view (settled_amount h.tables h.outside) mine)
     played (stopped_at call step) e = refl
 
 -- another attempt is beside the end

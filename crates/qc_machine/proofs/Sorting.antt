@@ -1,7 +1,7 @@
--- Items of which of each two one comes before the other are, in order, the same items.
-use Rattle.std.proofs.Common.{◌≡◌, ◌∙◌, ℕ, ◌<◌, zero, suc, List, [], ◌∷◌, Bool, true, false, not, cond, length, get_or, refl, ap, arith}
+-- Items of which of each two one comes before the other are, in order, the same items, each before those behind it.
+use Rattle.std.proofs.Common.{◌≡◌, ◌∙◌, ℕ, ◌<◌, zero, suc, List, [], ◌∷◌, Bool, true, false, not, cond, ◌||◌, length, get_or, refl, sym, ap, subst, arith}
 use Rattle.std.specs.Bool.{⊤}
-use Rattle.std.specs.List.{AllByRecursion}
+use Rattle.std.specs.List.{AllByRecursion, list_any}
 use Rattle.std.specs.List.Sorted.{IsPermutation}
 use Rattle.std.proofs.lemmas.List.Sorted.{IsPermutation-refl, IsPermutation-trans, IsPermutation-cons, IsPermutation-swap}
 use Rattle.std.proofs.lemmas.List.Elements.{All-from_recursion, All-get_or}
@@ -14,7 +14,7 @@ module _ {A : Type 0} (before : A → A → Bool) where
   AreApart [] = ⊤
   AreApart (x ∷ xs) = AllByRecursion (λ y. before y x ≡ not (before x y)) xs × AreApart xs
 
-  abbrev IsUp : List A → Type 0
+  abbrev pub IsUp : List A → Type 0
   IsUp [] = ⊤
   IsUp (x ∷ xs) = AllByRecursion (λ y. (before x y ≡ true) × (before y x ≡ false)) xs × IsUp xs
 
@@ -86,7 +86,33 @@ module _ {A : Type 0} (before : A → A → Bool) where
     same-sorted [] = IsPermutation-refl []
     same-sorted (x ∷ xs) = IsPermutation-trans (x ∷ xs) (x ∷ sorted xs) (put x (sorted xs)) (IsPermutation-cons x xs (sorted xs) (same-sorted xs)) (same-put x (sorted xs))
 
+    in_order-sorted : (xs : List A) → ((x : A) → before x x ≡ false) → AreApart xs → in_order before xs ≡ sorted xs
+    in_order-sorted xs irreflexive apart = in_order_is before xs (sorted xs) irreflexive (same-sorted xs) (strictly (sorted xs) (up-sorted xs apart))
+
     pub in_order-permutes : (xs : List A) → ((x : A) → before x x ≡ false) → AreApart xs → IsPermutation xs (in_order before xs)
-    in_order-permutes xs irreflexive apart =
-        let is : in_order before xs ≡ sorted xs = in_order_is before xs (sorted xs) irreflexive (same-sorted xs) (strictly (sorted xs) (up-sorted xs apart)) in
-        rw is (same-sorted xs)
+    in_order-permutes xs irreflexive apart = rw (in_order-sorted xs irreflexive apart) (same-sorted xs)
+
+    pub in_order-up : (xs : List A) → ((x : A) → before x x ≡ false) → AreApart xs → IsUp (in_order before xs)
+    in_order-up xs irreflexive apart = subst IsUp (sym (in_order-sorted xs irreflexive apart)) (up-sorted xs apart)
+
+    any-put : (p : A → Bool) (x : A) (ys : List A) → list_any p (put x ys) ≡ (p x || list_any p ys)
+    unfolding put
+    any-put p x [] = refl
+    any-put p x (y ∷ ys) = by (before x y) (any-put p x ys)
+      where
+        swap : (a b c : Bool) → (b || (a || c)) ≡ (a || (b || c))
+        swap true true c = refl
+        swap true false c = refl
+        swap false b c = refl
+
+        by : (b : Bool) → list_any p (put x ys) ≡ (p x || list_any p ys) → list_any p (cond b (x ∷ y ∷ ys) (y ∷ put x ys)) ≡ (p x || (p y || list_any p ys))
+        by true rest = refl
+        by false rest = ap (λ b. p y || b) rest ∙ swap (p x) (p y) (list_any p ys)
+
+    any-sorted : (p : A → Bool) (xs : List A) → list_any p (sorted xs) ≡ list_any p xs
+    unfolding sorted
+    any-sorted p [] = refl
+    any-sorted p (x ∷ xs) = any-put p x (sorted xs) ∙ ap (λ b. p x || b) (any-sorted p xs)
+
+    pub in_order-any : (p : A → Bool) (xs : List A) → ((x : A) → before x x ≡ false) → AreApart xs → list_any p (in_order before xs) ≡ list_any p xs
+    in_order-any p xs irreflexive apart = ap (list_any p) (in_order-sorted xs irreflexive apart) ∙ any-sorted p xs

@@ -13,11 +13,12 @@ use Rattle.qc_catalogue.specs.Catalogue.{catalogue_of}
 use Rattle.qc_catalogue.specs.Laws.{keys_ascend}
 use Rattle.qc_catalogue.proofs.Orderly.{stand_in_order}
 use Rattle.qc_rows.specs.Laws.{are_canonical}
+use Rattle.qc_rows.specs.Settling.{settled_by}
 use Rattle.qc_rows.specs.Tables.{opened_tables, rows_shown}
 use Rattle.qc_rows.proofs.Opened.{opens-canonical}
 use Rattle.qc_rows.proofs.Settling.{canonical-ascend, keeps-canonical}
 use Rattle.qc_txn.specs.Outcome.{Outcome, commits, fails}
-use Rattle.qc_machine.specs.History.{History, by_text, if_ok, no_catalogue, no_facts, after_fact, after_facts, committed_tables, history_of, outcome_on, tables_after}
+use Rattle.qc_machine.specs.History.{History, by_text, if_ok, no_catalogue, no_facts, after_fact, after_facts, committed_tables, history_of, outcome_on, rows_after}
 
 text-canonical : (text : List ℕ) → are_canonical (opened_tables (unwrap_or (by_text text) no_catalogue)) ≡ true
 unfolding by_text
@@ -30,11 +31,11 @@ text-canonical text = by_read (catalogue_of text) refl
 committed-canonical : (h : History) (kind : Kind) (id : ℕ) → are_canonical h.tables ≡ true → are_canonical (committed_tables h kind id) ≡ true
 committed-canonical h kind id was = by (message_of id h.messages)
   where
-    after : (o : Outcome) → are_canonical (tables_after o h.tables) ≡ true
+    after : (o : Outcome) → are_canonical (rows_after settled_by o h.tables) ≡ true
     after (commits play) = keeps-canonical play.view h.tables was
     after (fails why) = was
 
-    by : (o : Option Message) → are_canonical (option_map_or (λ (m : Message). tables_after (outcome_on h kind m) h.tables) o h.tables) ≡ true
+    by : (o : Option Message) → are_canonical (option_map_or (λ (m : Message). rows_after settled_by (outcome_on h kind m) h.tables) o h.tables) ≡ true
     by None = was
     by (Some m) = after (outcome_on h kind m)
 

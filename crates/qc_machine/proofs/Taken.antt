@@ -139,7 +139,7 @@ taken-held s m is inside number = (
     message = m;
     found = is.found;
     recording = refl;
-    rows = rows-of-view (settled_amount s.history.tables) mine;
+    rows = rows-of-view (settled_amount s.history.tables s.history.outside) mine;
     inside = inside;
     records = refl;
     attempt = number;
@@ -148,7 +148,7 @@ taken-held s m is inside number = (
   λ i b there. record {
     ids = eq-flip b.id m.id (id-free s m.id is.free i b there);
     attempts = eq-flip b.attempt (next_attempt s) (numbers.1 i b there);
-    rows = λ r t. row-free s r (any-row (is_row_held (holdings s)) mine r is.rows (ap (λ l. has_row l r) (sym (rows-of-view (settled_amount s.history.tables) mine)) ∙ t)) i b there;
+    rows = λ r t. row-free s r (any-row (is_row_held (holdings s)) mine r is.rows (ap (λ l. has_row l r) (sym (rows-of-view (settled_amount s.history.tables s.history.outside) mine)) ∙ t)) i b there;
   },
 )
   where

@@ -25,6 +25,7 @@ use Rattle.qc_txn.specs.Outcome.{Outcome, fails, commits, outcome, view_of}
 use Rattle.qc_txn.specs.Attempt.{effects_in}
 use Rattle.qc_txn.specs.Parts.{is_playable, parts_of, rows_of_attempt}
 use Rattle.qc_listener.specs.Choice.{is_due, kind_at}
+use Rattle.qc_rows.specs.Outside.{opened_resources, outside_amount, outside_by}
 use Rattle.qc_rows.specs.Tables.{TableRows, amount_in, opened_tables}
 use Rattle.qc_rows.specs.Settling.{settled_by}
 
@@ -57,45 +58,67 @@ pub record History : Type 0 where
   pub messages : List Message
   -- the tables with their rows, none of which has 0
   pub tables : List TableRows
+  -- the resources with the rows that the catalogue names, and the amounts that are settled for them
+  pub outside : List TableRows
   -- the moment of the last fact that has one, or 0
   pub last : ℕ
 
 abbrev pub no_facts : History
-no_facts = record { facts = []; catalogue = no_catalogue; messages = []; tables = []; last = 0 }
+no_facts = record { facts = []; catalogue = no_catalogue; messages = []; tables = []; outside = []; last = 0 }
 
--- a catalogue comes into force, and opens the tables
+-- a catalogue comes into force, and opens the tables and the resources
 abbrev pub under_catalogue : Catalogue → History → History
-under_catalogue c h = record h { catalogue = c; messages = map (λ (m : Message). record m { final_class = names_exception c m.recording }) h.messages; tables = opened_tables c }
+under_catalogue c h = record h {
+  catalogue = c;
+  messages = map (λ (m : Message). record m { final_class = names_exception c m.recording }) h.messages;
+  tables = opened_tables c;
+  outside = opened_resources c;
+}
 
 abbrev pub under_text : Reader → Fact → History → History
 under_text read (InForce text) h = under_catalogue (unwrap_or (read text) no_catalogue) h
 under_text read _ h = h
 
--- the settled amount of a row: an outside one has none yet
-abbrev pub settled_amount : List TableRows → Row → Option ℕ
-settled_amount tables row = elim row.space [ Inside ↦ Some (amount_in row.name row.key tables) | Outside ↦ None ]
+-- the settled amount of a row: an outside one that isn't there has none
+abbrev pub settled_amount : List TableRows → List TableRows → Row → Option ℕ
+settled_amount tables outside row =
+    elim row.space [ Inside ↦ Some (amount_in row.name row.key tables) | Outside ↦ outside_amount outside row.name row.key ]
 
 -- what an attempt of this kind on a recording sees before its first call
 abbrev pub view_at : History → Recording → Kind → List Seen
-view_at h r kind = view_of (settled_amount h.tables) (rows_of_attempt h.catalogue r kind)
+view_at h r kind = view_of (settled_amount h.tables h.outside) (rows_of_attempt h.catalogue r kind)
 
 -- how such an attempt on a message ends
 abbrev pub outcome_on : History → Kind → Message → Outcome
 outcome_on h kind m = outcome h.catalogue m.recording kind (view_at h m.recording kind)
 
-abbrev pub tables_after : Outcome → List TableRows → List TableRows
-tables_after (commits play) tables = settled_by play.view tables
-tables_after (fails why) tables = tables
+-- what a view makes of rows, where the attempt that saw it commits
+abbrev pub rows_after : (List Seen → List TableRows → List TableRows) → Outcome → List TableRows → List TableRows
+rows_after settle (commits play) rows = settle play.view rows
+rows_after settle (fails why) rows = rows
 
--- the tables after a committed attempt of this kind on the message of an id
+abbrev pub committed_rows : (List Seen → List TableRows → List TableRows) → History → Kind → ℕ → List TableRows → List TableRows
+committed_rows settle h kind id rows =
+    option_map_or (λ (m : Message). rows_after settle (outcome_on h kind m) rows) (message_of id h.messages) rows
+
+-- the tables and the resources after a committed attempt of this kind on the message of an id
+
 abbrev pub committed_tables : History → Kind → ℕ → List TableRows
-committed_tables h kind id = option_map_or (λ (m : Message). tables_after (outcome_on h kind m) h.tables) (message_of id h.messages) h.tables
+committed_tables h kind id = committed_rows settled_by h kind id h.tables
+
+abbrev pub committed_outside : History → Kind → ℕ → List TableRows
+committed_outside h kind id = committed_rows outside_by h kind id h.outside
 
 -- what a fact changes beside the list of facts, but for a catalogue
 abbrev pub settle_fact : Fact → History → History
 settle_fact (InForce text) h = h
 settle_fact (Sent id at r) h = record h { messages = after_sent id r (names_exception h.catalogue r) at h.messages; last = at }
-settle_fact (Played id attempt kind at) h = record h { messages = after_consumed id attempt h.messages; tables = committed_tables h kind id; last = at }
+settle_fact (Played id attempt kind at) h = record h {
+  messages = after_consumed id attempt h.messages;
+  tables = committed_tables h kind id;
+  outside = committed_outside h kind id;
+  last = at;
+}
 settle_fact (Failed id attempt at) h = record h { messages = after_failed id at h.messages; last = at }
 settle_fact (Moved app queue at ids) h = record h { messages = after_moved ids queue at h.messages; last = at }
 settle_fact (Switched app on at) h = record h { last = at }
@@ -160,7 +183,7 @@ may_end_on h attempt at kind committed m =
     is_due at m.place
     && (is_new_attempt attempt h
     && (kind_eq kind (kind_at m.place)
-    && (plays_inside h.catalogue m.recording kind && bool_eq committed (is_commit (outcome_on h kind m)))))
+    && (is_playable h.catalogue m.recording kind && bool_eq committed (is_commit (outcome_on h kind m)))))
 
 abbrev pub may_end : History → ℕ → ℕ → ℕ → Kind → Bool → Bool
 may_end h id attempt at kind committed = option_map_or (may_end_on h attempt at kind committed) (message_of id h.messages) false

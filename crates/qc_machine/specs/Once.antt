@@ -6,7 +6,7 @@ use Rattle.qc_base.specs.declared.fact.Fact.TheVariants.{Sent, Played}
 use Rattle.qc_base.specs.declared.queue.Waiting.{Waiting}
 use Rattle.qc_base.specs.Messages.{listing, consumed_ids}
 use Rattle.qc_catalogue.specs.declared.catalogue.App.{App}
-use Rattle.qc_rows.specs.Tables.{total_in}
+use Rattle.qc_rows.specs.Tables.{TableRows, total_in}
 use Rattle.qc_machine.specs.History.{Reader, History, history_of}
 
 -- the ids that stand in an application's queues 0 to 5 and its dead queue, and those that it consumed
@@ -34,13 +34,13 @@ pub record EachOnce (read : Reader) (facts : List Fact) : Type 0 where
   pub none_else : length (listed (history_of read facts)) ≡ length (history_of read facts).messages
   pub played_once : (app : List ℕ) (id : ℕ) → 1 ≤ count_by (λ n. n == id) (consumed_ids app (history_of read facts).messages) → count_by (is_played id) facts ≡ 1
 
--- the total of a table after the first facts, so many
-abbrev pub total_at : Reader → List ℕ → List Fact → ℕ → ℕ
-total_at read table facts n = total_in table (history_of read (take n facts)).tables
+-- the total of a table, or of a resource, after the first facts, so many
+abbrev pub total_at : Reader → (History → List TableRows) → List ℕ → List Fact → ℕ → ℕ
+total_at read rows name facts n = total_in name (rows (history_of read (take n facts)))
 
--- what the fact at a place changes of a table's total
-abbrev pub change_at : Reader → List ℕ → List Fact → ℕ → ℤ
-change_at read table facts place = pos (total_at read table facts (place + 1)) -ℤ pos (total_at read table facts place)
+-- what the fact at a place changes of it
+abbrev pub change_at : Reader → (History → List TableRows) → List ℕ → List Fact → ℕ → ℤ
+change_at read rows name facts place = pos (total_at read rows name facts (place + 1)) -ℤ pos (total_at read rows name facts place)
 
 abbrev pub is_play : Fact → Bool
 is_play (Played id attempt kind at) = true
@@ -49,11 +49,16 @@ is_play _ = false
 abbrev pub played_places : List Fact → List (ℕ × Fact)
 played_places facts = filter (λ (p : ℕ × Fact). is_play p.1) (enumerate_from 0 facts)
 
-abbrev pub changes : Reader → List ℕ → List Fact → List (ℕ × Fact) → ℤ
-changes read table facts [] = pos 0
-changes read table facts (p ∷ places) = change_at read table facts p.0 +ℤ changes read table facts places
+abbrev pub changes : Reader → (History → List TableRows) → List ℕ → List Fact → List (ℕ × Fact) → ℤ
+changes read rows name facts [] = pos 0
+changes read rows name facts (p ∷ places) = change_at read rows name facts p.0 +ℤ changes read rows name facts places
 
--- the total of each table is its opening total and the changes of the committed attempts
-abbrev pub TotalsSettled : Reader → List Fact → Type 0
-TotalsSettled read facts = (table : List ℕ) →
-    pos (total_in table (history_of read facts).tables) ≡ pos (total_at read table facts 1) +ℤ changes read table facts (played_places facts)
+-- each total is its opening total and the changes of the committed attempts
+abbrev pub AreTotalsSettled : Reader → (History → List TableRows) → List Fact → Type 0
+AreTotalsSettled read rows facts = (name : List ℕ) →
+    pos (total_in name (rows (history_of read facts))) ≡ pos (total_at read rows name facts 1) +ℤ changes read rows name facts (played_places facts)
+
+-- so is that of each table and of each resource
+pub record TotalsSettled (read : Reader) (facts : List Fact) : Type 0 where
+  pub tables : AreTotalsSettled read (λ (h : History). h.tables) facts
+  pub resources : AreTotalsSettled read (λ (h : History). h.outside) facts

@@ -1,5 +1,5 @@
 // What holds of every step. Nothing runs here: the contracts are the laws.
-ghost use Rattle.std.specs.Prelude.{◌≡◌, ◌≤◌, ℕ, List, flat_map, true, Some, if◌then◌else◌};
+ghost use Rattle.std.specs.Prelude.{◌≡◌, ◌≤◌, ℕ, List, flat_map, map, true, Some, is_some, if◌then◌else◌};
 ghost use Rattle.qc_base.specs.declared.fact.Fact.{Fact};
 ghost use Rattle.qc_base.specs.declared.message.Message.{Message};
 ghost use Rattle.qc_base.specs.Messages.{message_of};
@@ -9,6 +9,8 @@ ghost use Rattle.qc_protocol.specs.declared.order.Order.{Order};
 ghost use Rattle.qc_protocol.specs.declared.reply.Refusal.{Refusal};
 ghost use Rattle.qc_protocol.specs.declared.reply.Reply.TheVariants.{Refused};
 ghost use Rattle.qc_rows.specs.Laws.{are_canonical};
+ghost use Rattle.qc_rows.specs.Outside.{opened_resources, outside_amount};
+ghost use Rattle.qc_rows.specs.Places.{places_of};
 ghost use Rattle.qc_rows.specs.Tables.{rows_shown};
 ghost use Rattle.qc_txn.specs.Parts.{is_playable};
 ghost use Rattle.qc_machine.specs.History.{Reader, by_text, history_of, is_legal};
@@ -55,10 +57,20 @@ pub fn messages_stand_in_one_place()
         → EachOnce read facts }
 {}
 
-/// In a legal history the total of each table is the one with which it opened, and what each fact Played has changed of
-/// it: no other fact changes a total (docs/RULES.md, "Histories").
+/// In a legal history the total of each table, and of each resource, is the one with which it opened, and what each
+/// fact Played has changed of it: no other fact changes a total (docs/RULES.md, "Histories").
 pub fn totals_are_settled()
     ensures { (read : Reader) (facts : List Fact) → is_legal read facts ≡ true → TotalsSettled read facts }
+{}
+
+/// The resources of a history have the rows that its catalogue names, in the same order, whatever facts led there. A
+/// row has an amount exactly where it has one in the opening (docs/RULES.md, "Histories").
+pub fn resources_keep_their_rows()
+    ensures places { (facts : List Fact) → map places_of (history_of by_text facts).outside
+        ≡ map places_of (opened_resources (history_of by_text facts).catalogue) }
+    ensures amounts { (facts : List Fact) (resource key : List ℕ)
+        → is_some (outside_amount (history_of by_text facts).outside resource key)
+        ≡ is_some (outside_amount (opened_resources (history_of by_text facts).catalogue) resource key) }
 {}
 
 /// The batches of a move have its ids, each once and in order. Each is of the size asked for, but that the last may be

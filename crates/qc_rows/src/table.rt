@@ -72,7 +72,7 @@ fn zero() -> Amount
     Amount::new(0).unwrap()
 }
 
-fn has_key(row: &(Text, Amount), key: &Text) -> bool
+pub(crate) fn has_key(row: &(Text, Amount), key: &Text) -> bool
     ensures { result ≡ bytes_eq row.now.0 key.now }
 {
     row.0.as_bytes() == key.as_bytes()

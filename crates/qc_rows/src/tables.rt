@@ -127,7 +127,7 @@ impl Tables {
 }
 
 // The rows of a table, none where there is no such table.
-fn rows_of<'a>(tables: &'a [Table], name: &Name) -> &'a [(Text, Amount)]
+pub(crate) fn rows_of<'a>(tables: &'a [Table], name: &Name) -> &'a [(Text, Amount)]
     ensures { result.now ≡ rows_shown name.now tables.now }
 {
     for table in tables {
@@ -138,7 +138,7 @@ fn rows_of<'a>(tables: &'a [Table], name: &Name) -> &'a [(Text, Amount)]
     &[]
 }
 
-fn is_inside(row: &Row) -> bool
+pub(crate) fn is_inside(row: &Row) -> bool
     ensures { result ≡ is_inside row.now }
 {
     match row.space {
@@ -183,7 +183,7 @@ fn reserve_rows(tables: &mut [Table], rows: &[Row]) -> Result<(), NoMemory>
 }
 
 // The row gets the amount in each table of its name, where it has a place.
-fn write_row(tables: &mut [Table], row: &Row, amount: Amount)
+pub(crate) fn write_row(tables: &mut [Table], row: &Row, amount: Amount)
     ensures { tables.new ≡ written_row row.now amount tables.old }
 {
     for table in tables.iter_mut() {

@@ -1,10 +1,7 @@
 -- How an attempt ends.
-use Rattle.std.specs.Prelude.{◌≡◌, ℕ, nat_le, List, [], ◌∷◌, map, find, Bool, true, false, ◌&&◌, ◌||◌, not, Option, Some, None, if◌then◌else◌}
-use Rattle.std.specs.List.{list_any}
+use Rattle.std.specs.Prelude.{ℕ, List, [], ◌∷◌, map, find, Bool, true, false, ◌&&◌, not, Option, Some, None}
 use Rattle.std.specs.Option.{option_map_or}
-use Rattle.std.specs.Str.{bytes_eq}
 use Rattle.qc_base.specs.declared.fact.Kind.{Kind}
-use Rattle.qc_base.specs.declared.log_line.LogRecord.{LogRecord}
 use Rattle.qc_base.specs.declared.log_line.Why.{Why}
 use Rattle.qc_base.specs.declared.log_line.Why.TheVariants.{Step as AtStep, Forced, NotReady}
 use Rattle.qc_base.specs.declared.recording.Recording.{Recording}
@@ -14,6 +11,7 @@ use Rattle.qc_script.specs.Naming.{names_with}
 use Rattle.qc_catalogue.specs.declared.catalogue.Catalogue.{Catalogue}
 use Rattle.qc_catalogue.specs.declared.catalogue.Resource.{Resource}
 use Rattle.qc_catalogue.specs.Lookup.{resource_named}
+use Rattle.crm_driver.specs.Ready.{is_ready}
 use Rattle.qc_play.specs.declared.record.PlayRecord.{PlayRecord}
 use Rattle.qc_play.specs.Effects.{records_of}
 use Rattle.qc_play.specs.Play.{Seen, Play, ran, failed_at, run_call}
@@ -37,19 +35,6 @@ play_all (p ∷ parts) play = elim (run_call p.script p.args play) [
   | ran next ↦ play_all parts next
   | failed_at step ↦ stopped_at p.number step
 ]
-
--- A resource is ready where it has no bounds, or the last new amount of each of its rows lies within them.
-
-abbrev pub is_within : ℕ × ℕ → LogRecord → Bool
-is_within bounds r = nat_le bounds.0 r.new && nat_le r.new bounds.1
-
-abbrev pub last_ones_within : ℕ × ℕ → List LogRecord → Bool
-last_ones_within bounds [] = true
-last_ones_within bounds (r ∷ rs) =
-    (list_any (λ (s : LogRecord). bytes_eq s.key r.key) rs || is_within bounds r) && last_ones_within bounds rs
-
-abbrev pub is_ready : Resource → List LogRecord → Bool
-is_ready resource records = option_map_or (λ bounds. last_ones_within bounds records) resource.bounds true
 
 -- the first resource, in order of its first effect, that has the prepare phase and isn't ready
 abbrev pub votes_no : Catalogue → List PlayRecord → List ℕ → Bool

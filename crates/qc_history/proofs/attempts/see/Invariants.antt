@@ -4,4 +4,4 @@ use Rattle.qc_txn.specs.Outcome.{view_of}
 use Rattle.qc_history.proofs.attempts.see.Given as goal
 
 abbrev pub invariant-loop-index : goal.invariant-loop-index
-invariant-loop-index l = l.seen.items ≡ view_of (settled_amount l.tables.tables) (take l.index l.rows)
+invariant-loop-index l = l.seen.items ≡ view_of (settled_amount l.tables.tables l.outside) (take l.index l.rows)

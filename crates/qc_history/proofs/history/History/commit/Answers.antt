@@ -4,6 +4,7 @@ use Rattle.qc_base.specs.Messages.{after_consumed}
 use Rattle.qc_listener.specs.Index.{MessageRows}
 use Rattle.qc_play.specs.Play.{Play, Seen}
 use Rattle.qc_rows.specs.Places.{TablesView}
+use Rattle.qc_rows.specs.Outside.{outside_by}
 use Rattle.qc_rows.specs.Settling.{settled_by}
 use Rattle.qc_history.specs.contracts.history.History.{the_view}
 use Rattle.qc_history.specs.View.{HistoryView, IsSound}
@@ -26,10 +27,11 @@ returns c =
     let in_it = c.self.inside in
     let a = c.args.attempt.now in
     let at = c.args.at in
-    let new : HistoryView = the_view (record { catalogue = in_it.catalogue; store = c.consume.new.self; tables = c.apply_view.new.self; rows = c.remove.new.self; off = in_it.off; facts = c.saturating_add-self-inside.result; last = at; attempt = c.greater-self-inside.result }) in
+    let new : HistoryView = the_view (record { catalogue = in_it.catalogue; store = c.consume.new.self; tables = c.apply_view.new.self; outside = c.apply_view-2.new.self; rows = c.remove.new.self; off = in_it.off; facts = c.saturating_add-self-inside.result; last = at; attempt = c.greater-self-inside.result }) in
     let facts : in_it.facts ≡ old.facts = ap (λ (v : HistoryView). v.facts) c.self.view_is in
     let settled = c.apply_view.ensures in
     let seen : c.view.result.now ≡ a.play.view = c.view.ensures ∙ ap (λ (p : Play). p.view) c.state.ensures.play in
+    let seen_again : c.view-2.result.now ≡ a.play.view = c.view-2.ensures ∙ ap (λ (p : Play). p.view) c.state-2.ensures.play in
     let counts : Counts at old new = record {
       counted = λ few. omega (arith, facts, few, c.saturating_add-self-inside.ensures);
       last = refl;
@@ -41,4 +43,7 @@ returns c =
     c.requires.waiting c.requires.committed
     (c.consume.ensures.messages ∙ ap (λ n. after_consumed n c.number.result in_it.store.messages) c.id-id.ensures ∙ ap (λ n. after_consumed a.id n in_it.store.messages) c.number.ensures
     ∙ ap (λ (v : HistoryView). after_consumed a.id a.number v.store.messages) c.self.view_is)
-    (ap (λ (t : TablesView). t.tables) settled ∙ ap (λ (l : List Seen). settled_by l in_it.tables.tables) seen ∙ ap (λ (v : HistoryView). settled_by a.play.view v.tables.tables) c.self.view_is)
+    (record {
+      tables = ap (λ (t : TablesView). t.tables) settled ∙ ap (λ (l : List Seen). settled_by l in_it.tables.tables) seen ∙ ap (λ (v : HistoryView). settled_by a.play.view v.tables.tables) c.self.view_is;
+      outside = c.apply_view-2.ensures ∙ ap (λ (l : List Seen). outside_by l in_it.outside) seen_again ∙ ap (λ (v : HistoryView). outside_by a.play.view v.outside) c.self.view_is;
+    })

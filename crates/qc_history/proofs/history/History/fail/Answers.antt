@@ -21,7 +21,7 @@ returns c =
     let in_it = c.self.inside in
     let a = c.args.attempt.now in
     let at = c.args.at in
-    let new : HistoryView = the_view (record { catalogue = in_it.catalogue; store = c.fail.new.self; tables = in_it.tables; rows = in_it.rows; off = in_it.off; facts = c.saturating_add-self-inside.result; last = at; attempt = c.greater-self-inside.result }) in
+    let new : HistoryView = the_view (record { catalogue = in_it.catalogue; store = c.fail.new.self; tables = in_it.tables; outside = in_it.outside; rows = in_it.rows; off = in_it.off; facts = c.saturating_add-self-inside.result; last = at; attempt = c.greater-self-inside.result }) in
     let facts : in_it.facts ≡ old.facts = ap (λ (v : HistoryView). v.facts) c.self.view_is in
     let counts : Counts at old new = record {
       counted = λ few. omega (arith, facts, few, c.saturating_add-self-inside.ensures);
@@ -33,4 +33,4 @@ returns c =
     (c.greater-self-inside.ensures ∙ ap (λ n. max in_it.attempt n) c.number.ensures ∙ ap (λ (v : HistoryView). max v.attempt a.number) c.self.view_is)
     c.requires.failed
     (c.fail.ensures.messages ∙ ap (λ n. after_failed n at in_it.store.messages) c.id.ensures ∙ ap (λ (v : HistoryView). after_failed a.id at v.store.messages) c.self.view_is)
-    (ap (λ (v : HistoryView). v.tables.tables) c.self.view_is)
+    (record { tables = ap (λ (v : HistoryView). v.tables.tables) c.self.view_is; outside = ap (λ (v : HistoryView). v.outside) c.self.view_is })

@@ -26,7 +26,7 @@ returns c = λ app.
     let ids = c.args.ids.now in
     let queue = c.args.queue in
     let at = c.args.at in
-    let new : HistoryView = record { catalogue = in_it.catalogue; store = c.move_batch.new.self; tables = in_it.tables; rows = in_it.rows; off = in_it.off; facts = c.saturating_add-self-inside.result; last = at; attempt = in_it.attempt } in
+    let new : HistoryView = record { catalogue = in_it.catalogue; store = c.move_batch.new.self; tables = in_it.tables; outside = in_it.outside; rows = in_it.rows; off = in_it.off; facts = c.saturating_add-self-inside.result; last = at; attempt = in_it.attempt } in
     let facts : in_it.facts ≡ old.facts = ap (λ (v : HistoryView). v.facts) c.self.view_is in
     let counts : Counts at old new = record {
       counted = λ few. omega (arith, facts, few, c.saturating_add-self-inside.ensures);
@@ -35,4 +35,4 @@ returns c = λ app.
       places = ap (λ (v : HistoryView). v.tables.places) c.self.view_is;
     } in
     adds-moved old new at counts app queue ids (c.move_batch.ensures.messages ∙ ap (λ (v : HistoryView). after_moved ids queue at v.store.messages) c.self.view_is)
-    (ap (λ (v : HistoryView). v.tables.tables) c.self.view_is) (ap (λ (v : HistoryView). v.off.names) c.self.view_is) (ap (λ (v : HistoryView). v.attempt) c.self.view_is)
+    (record { tables = ap (λ (v : HistoryView). v.tables.tables) c.self.view_is; outside = ap (λ (v : HistoryView). v.outside) c.self.view_is }) (ap (λ (v : HistoryView). v.off.names) c.self.view_is) (ap (λ (v : HistoryView). v.attempt) c.self.view_is)

@@ -12,5 +12,5 @@ invariant_of-self-2 c =
 pub returns-clause-room : goal.returns-clause-room
 returns-clause-room c =
     let in_it = c.self.inside in
-    let old : HistoryView = record { catalogue = in_it.catalogue; store = in_it.store; tables = in_it.tables; rows = in_it.rows; off = in_it.off; facts = in_it.facts; last = in_it.last; attempt = in_it.attempt } in
+    let old : HistoryView = record { catalogue = in_it.catalogue; store = in_it.store; tables = in_it.tables; outside = in_it.outside; rows = in_it.rows; off = in_it.off; facts = in_it.facts; last = in_it.last; attempt = in_it.attempt } in
     room-next old c.reserve.new.self c.set.new.self (c.len-id.result + 1) c.args.recording.now c.set.result c.in_ok-reserve.ensures.room (ap (λ n. n + 1) c.len-id.ensures.value) c.set.ensures.kept

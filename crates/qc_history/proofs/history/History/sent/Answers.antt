@@ -28,7 +28,7 @@ returns-clause-adds c =
     let in_it = c.self.inside in
     let r = c.args.recording in
     let at = c.args.at in
-    let new : HistoryView = record { catalogue = in_it.catalogue; store = c.insert.new.self; tables = in_it.tables; rows = in_it.rows; off = in_it.off; facts = c.saturating_add-self-inside.result; last = c.args.at; attempt = in_it.attempt } in
+    let new : HistoryView = record { catalogue = in_it.catalogue; store = c.insert.new.self; tables = in_it.tables; outside = in_it.outside; rows = in_it.rows; off = in_it.off; facts = c.saturating_add-self-inside.result; last = c.args.at; attempt = in_it.attempt } in
     let facts : in_it.facts ≡ old.facts = ap (λ (v : HistoryView). v.facts) c.self.view_is in
     let counts : Counts c.args.at old new = record {
       counted = λ few. omega (arith, facts, few, c.saturating_add-self-inside.ensures);
@@ -39,4 +39,4 @@ returns-clause-adds c =
     adds-sent old new at counts r
     (c.insert.ensures.messages ∙ ap (λ n. after_sent n r c.names_exception-final_class.result at in_it.store.messages) (ap (λ n. n + 1) c.len-id.ensures.value) ∙ ap (λ b. after_sent (length in_it.store.messages + 1) r b at in_it.store.messages) c.names_exception-final_class.ensures
     ∙ ap (λ (v : HistoryView). after_sent (length v.store.messages + 1) r (names_exception v.catalogue r) at v.store.messages) c.self.view_is)
-    (ap (λ (v : HistoryView). v.tables.tables) c.self.view_is) (ap (λ (v : HistoryView). v.off.names) c.self.view_is) (ap (λ (v : HistoryView). v.attempt) c.self.view_is)
+    (record { tables = ap (λ (v : HistoryView). v.tables.tables) c.self.view_is; outside = ap (λ (v : HistoryView). v.outside) c.self.view_is }) (ap (λ (v : HistoryView). v.off.names) c.self.view_is) (ap (λ (v : HistoryView). v.attempt) c.self.view_is)

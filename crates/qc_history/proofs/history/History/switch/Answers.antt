@@ -16,7 +16,7 @@ pub returns : goal.returns
 returns c =
     let old : HistoryView = c.args.self.now in
     let in_it = c.self.inside in
-    let new : HistoryView = record { catalogue = in_it.catalogue; store = in_it.store; tables = in_it.tables; rows = in_it.rows; off = c.set.new.self; facts = c.saturating_add-self-inside.result; last = c.args.at; attempt = in_it.attempt } in
+    let new : HistoryView = record { catalogue = in_it.catalogue; store = in_it.store; tables = in_it.tables; outside = in_it.outside; rows = in_it.rows; off = c.set.new.self; facts = c.saturating_add-self-inside.result; last = c.args.at; attempt = in_it.attempt } in
     let facts : in_it.facts ≡ old.facts = ap (λ (v : HistoryView). v.facts) c.self.view_is in
     let counts : Counts c.args.at old new = record {
       counted = λ few. omega (arith, facts, few, c.saturating_add-self-inside.ensures);
@@ -24,5 +24,5 @@ returns c =
       catalogue = ap (λ (v : HistoryView). v.catalogue) c.self.view_is;
       places = ap (λ (v : HistoryView). v.tables.places) c.self.view_is;
     } in
-    adds-switched old new c.args.at counts c.args.app c.args.on (ap (λ (v : HistoryView). v.store.messages) c.self.view_is) (ap (λ (v : HistoryView). v.tables.tables) c.self.view_is)
+    adds-switched old new c.args.at counts c.args.app c.args.on (ap (λ (v : HistoryView). v.store.messages) c.self.view_is) (record { tables = ap (λ (v : HistoryView). v.tables.tables) c.self.view_is; outside = ap (λ (v : HistoryView). v.outside) c.self.view_is })
     (c.set.ensures ∙ ap (λ (v : HistoryView). switched c.args.app c.args.on v.off.names) c.self.view_is) (ap (λ (v : HistoryView). v.attempt) c.self.view_is)

@@ -29,6 +29,12 @@ returns-in_err-tables c = λ numbers.
     let is : c.from_residual.result ≡ Err c.in_err-tables.field-0.0 = search rules in
     subst (λ (r : Result Bool NoMemory). TakesFact (InForce c.args.text.now) r old numbers old numbers) (sym is) (starves old numbers old (aside-none old))
 
+pub returns-in_err-outside : goal.returns-in_err-outside
+returns-in_err-outside c = λ numbers.
+    let old : HistoryView = c.args.self.now in
+    let is : c.from_residual-in_err-outside.result ≡ Err c.in_err-outside.field-0.0 = search rules in
+    subst (λ (r : Result Bool NoMemory). TakesFact (InForce c.args.text.now) r old numbers old numbers) (sym is) (starves old numbers old (aside-none old))
+
 pub begin_with-requires : goal.begin_with-requires
 begin_with-requires c = omega arith
 
@@ -37,4 +43,4 @@ returns c = λ numbers.
     let old : HistoryView = c.args.self.now in
     let first : old.facts ≡ 0 = omega arith in
     subst (λ (v : HistoryView). Takes (InForce c.args.text.now) old numbers v numbers) (sym c.begin_with.ensures.is)
-    (first-taken old numbers c.args.text.now c.in-Ok.catalogue c.in_ok-tables.tables c.in-Ok.ensures.catalogue c.in_ok-tables.ensures first c.begin_with.ensures.none)
+    (first-taken old numbers c.args.text.now c.in-Ok.catalogue c.in_ok-tables.tables c.in_ok-outside.outside c.in-Ok.ensures.catalogue c.in_ok-tables.ensures c.in_ok-outside.ensures first c.begin_with.ensures.none)

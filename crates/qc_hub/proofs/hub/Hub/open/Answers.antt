@@ -33,7 +33,7 @@ read_log-requires-clause-opened g c =
 
 pub returns-in_err-read_log : goal.returns-in_err-read_log
 returns-in_err-read_log g c =
-    let same : c.from_residual-in_err-read_log.result ≡ Err c.in_err-read_log.field-0.0 = search rules in
+    let same : c.from_residual-in_err-read_log.result ≡ Err c.in_err-read_log.field-0.0 = search (rules, c.from_residual-in_err-read_log.ensures) in
     let some : c.read_facts.new.self.history.facts ≢ 0 = λ none. search rules in
     subst (λ r. OpensSite g.S.Site c.args.limits r c.args.site.now c.read_log.new.site) (sym same)
     (exit-log g.S.Site c.args.limits c.args.site.now c.unread.new.site c.read_facts.new.site c.in_ok-hub.hub c.read_facts.new.self c.in_ok-hub.ensures (λ t i told le here. g.met.S.Site.counts_now c.unread.new.site t i told le here)

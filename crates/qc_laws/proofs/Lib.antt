@@ -1,0 +1,12 @@
+pub mod LineWords
+pub mod Logging
+pub mod Lasts
+pub mod RowsOn
+pub mod Carried
+pub mod CallByCall
+pub mod Votes
+pub mod Forgetting
+pub mod Writing
+pub mod LegalLog
+pub mod Thinning
+pub mod PhaseOf

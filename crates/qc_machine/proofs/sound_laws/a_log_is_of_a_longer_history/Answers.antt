@@ -1,0 +1,5 @@
+use Rattle.qc_machine.proofs.LongerHistory.{legal-still, log-still}
+use Rattle.qc_machine.proofs.sound_laws.a_log_is_of_a_longer_history.Goals as goal
+
+pub returns : goal.returns
+returns c = record { legal = λ k sent more ended others lines le. legal-still k sent more le ended others lines; beside = log-still }

@@ -1,0 +1,10 @@
+pub mod OwnWords
+pub mod Steps
+mod Found
+mod Effects
+mod Carried
+mod Rooms
+mod Running
+pub mod FewLines
+mod Spending
+mod SetAside
