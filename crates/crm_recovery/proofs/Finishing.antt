@@ -1,9 +1,8 @@
 -- Attempts finished one after another. `g` has the members of the site's trait.
 use Rattle.std.proofs.Common.{◌≡◌, ◌∙◌, ◌<◌, ◌≤◌, inl, inr, ℕ, List, [], ◌∷◌, ◌++◌, length, true, Result, Ok, Err, IsErr, OnOk, refl, sym, ap, subst, arith, append_assoc, append-nil}
-use Rattle.std.proofs.lemmas.Bool.{false≢true}
 use Rattle.std.proofs.lemmas.Result.{on_ok_weaker}
 use Rattle.qc_base.specs.Rows.{OutsideRows, put_row}
-use Rattle.qc_base.specs.Spelling.{is_line, spelled_line}
+use Rattle.qc_base.specs.Spelling.{is_line}
 use Rattle.qc_base.specs.declared.log_line.LogLine.{LogLine}
 use Rattle.qc_base.specs.declared.log_line.LogLine.TheVariants.{Done}
 use Rattle.qc_site.specs.declared.site.Failed.{Failed}

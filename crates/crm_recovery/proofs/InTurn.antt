@@ -1,11 +1,11 @@
 -- What a crash leaves while attempts are finished in turn. `g` has the members of the site's trait.
-use Rattle.std.proofs.Common.{◌≡◌, ◌∙◌, ◌⊎◌, ⊎_elim, ◌<◌, ◌≤◌, ℕ, List, [], ◌∷◌, ◌++◌, length, Result, Ok, Err, None, refl, sym, ap, subst, arith, append_assoc, append-nil}
+use Rattle.std.proofs.Common.{◌≡◌, ◌∙◌, ⊎_elim, ◌<◌, ◌≤◌, ℕ, List, [], ◌∷◌, ◌++◌, length, Result, Ok, Err, refl, sym, ap, subst, append_assoc, append-nil}
 use Rattle.qc_base.specs.Rows.{OutsideRows}
 use Rattle.qc_site.specs.declared.site.Failed.{Failed}
 use Rattle.qc_site.specs.declared.site.Site.{Ghosts}
 use Rattle.qc_site.specs.declared.site.SiteFile.{SiteFile}
 use Rattle.qc_site.specs.declared.site.SiteFile.TheVariants.{CrmLog}
-use Rattle.qc_site.specs.Disk.{Certain, FileStep, Follows, Images, LeavesOnly}
+use Rattle.qc_site.specs.Disk.{FileStep, Follows, Images, LeavesOnly}
 use Rattle.qc_site.specs.Image.{Image, bytes_of}
 use Rattle.qc_site.proofs.Images.{bytes_of-with_bytes}
 use Rattle.qc_site.proofs.Moments.{started, weaker, joined}
@@ -13,12 +13,11 @@ use Rattle.qc_frame.specs.Calls.{LogStands, Forces}
 use Rattle.qc_frame.specs.Frame.{groups_at}
 use Rattle.qc_frame.specs.Gate.{After}
 use Rattle.qc_frame.specs.Log.{LogView, SameLog, WholeFrom, WholeOrNotFrom, Whole, WholeOrNot}
-use Rattle.qc_entries.specs.Entries.{EntriesView}
 use Rattle.crm_log.specs.Log.{lines_payload}
-use Rattle.crm_driver.specs.Puts.{RowPut, after_puts, GoesByPuts, LeavesFront, MakesPuts}
+use Rattle.crm_driver.specs.Puts.{RowPut, GoesByPuts, LeavesFront, MakesPuts}
 use Rattle.crm_driver.proofs.PutLaws.{Lacks, lacks_puts, passed_over}
 use Rattle.crm_recovery.specs.Settling.{done_group, rows_after}
-use Rattle.crm_recovery.specs.Moments.{Finish, GoesByFinish, GoesByFinishes, GoesByPart, GoesByNext, LeavesFinishes, FinishesInTurn, AddsDone}
+use Rattle.crm_recovery.specs.Moments.{Finish, GoesByFinishes, GoesByNext, LeavesFinishes, FinishesInTurn, AddsDone}
 use Rattle.crm_recovery.proofs.Finishing.{rows-after}
 
 -- nothing of a file

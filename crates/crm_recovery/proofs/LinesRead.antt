@@ -1,5 +1,5 @@
 -- A log that is read line by line: how far it was read, and what it spells at its end.
-use Rattle.std.proofs.Common.{◌≡◌, ◌∙◌, ◌⊎◌, ⊎_elim, inl, inr, ◌≤◌, ℕ, List, [], ◌∷◌, ◌++◌, ◌&&◌, length, map, true, false, Bool, refl, sym, ap, subst, arith}
+use Rattle.std.proofs.Common.{◌≡◌, ◌∙◌, ⊎_elim, inl, inr, ◌≤◌, ℕ, List, [], ◌∷◌, ◌++◌, ◌&&◌, length, map, true, false, true≢false, Bool, refl, sym, ap, subst, arith}
 use Rattle.std.specs.List.{flat_map, list_all}
 use Rattle.std.proofs.lemmas.List.{append-nil}
 use Rattle.std.proofs.lemmas.List.Folds.{flat_map-map, list_all-append}
@@ -8,8 +8,6 @@ use Rattle.qc_base.specs.declared.log_line.LogLine.{LogLine}
 use Rattle.qc_site.specs.Image.{Image, bytes_of}
 use Rattle.qc_site.specs.Disk.{LeavesOnly}
 use Rattle.qc_site.specs.declared.site.Site.{Ghosts}
-use Rattle.qc_site.specs.declared.site.SiteFile.{SiteFile}
-use Rattle.qc_site.specs.declared.site.SiteFile.TheVariants.{CrmLog}
 use Rattle.qc_frame.specs.Calls.{LogStands, KeepsGroups}
 use Rattle.qc_frame.proofs.Chained.{chained, keeps_on}
 use Rattle.qc_frame.specs.Frame.{entry, groups_at}
@@ -20,8 +18,11 @@ use Rattle.qc_entries.specs.Entries.{EntriesView, NextEntries, NoEntries}
 use Rattle.qc_catalogue.specs.declared.catalogue.Catalogue.{Catalogue}
 use Rattle.crm_log.specs.Lines.{NextLine, DamagedLine}
 use Rattle.crm_log.specs.Log.{SpellsLog, LinesAhead, all_lines, lines_payload}
+use Rattle.crm_log.proofs.Spells.{first_ahead, none_ahead, all_ahead, sound_ahead}
 use Rattle.crm_history.specs.declared.ended.Ended.{Ended}
-use Rattle.crm_history.specs.Legal.{is_log_legal, line_may_follow}
+use Rattle.crm_history.specs.Legal.{is_log_legal, line_may_follow, lines_follow}
+use Rattle.crm_recovery.proofs.Unfinished.{follow-append}
+use Rattle.std.proofs.lemmas.Bool.{and_parts}
 use Rattle.crm_recovery.specs.Reading.{JustOpened, NextLines, NotNext, DamagedLines, SpellsLines}
 
 -- one line more
@@ -87,6 +88,35 @@ spelled-all file now start end new lines opened read none =
     by : (first : List LogLine) (log : List (List LogLine)) → [] ≡ map spelled_line first → groups_at file 16 ≡ map lines_payload log → list_all (list_all is_line) log ≡ true → lines ≡ first ++ all_lines log → SpellsLines file lines
     by (f ∷ first) log left to_come others is = absurd (omega (arith, ap length left))
     by [] log left to_come others is = record { groups = log; spelled = record { groups = to_come; limits = others }; is = is }
+
+-- of the lines that a file spells
+
+ahead-on : (file : List ℕ) (start end : EntriesView) (lines all : List LogLine) → LinesAhead file start all → NextLines file start lines end → (rest : List LogLine) × (all ≡ lines ++ rest) × LinesAhead file end rest
+ahead-on file start end [] all ahead read = (all, refl, subst (λ (v : EntriesView). LinesAhead file v all) (sym read) ahead)
+ahead-on file start end (l ∷ lines) all ahead read =
+    let from = first_ahead file start read.0 read.1 l all ahead read.2 in
+    let more = ahead-on file read.0 end lines from.rest from.ahead read.3 in
+    (more.0, from.is ∙ ap (λ (x : List LogLine). l ∷ x) more.1, more.2)
+
+-- these are read, in order
+pub read-all : (file now : List ℕ) (start end new : EntriesView) (lines : List LogLine) (log : List (List LogLine)) → JustOpened start → SpellsLog file log → NextLines file start lines end → NoEntries file now end new → lines ≡ all_lines log
+read-all file now start end new lines log opened spells read none =
+    let more = ahead-on file start end lines (all_lines log) (all_ahead file start log opened.none_left opened.place spells) read in
+    sym (more.1 ∙ ap (λ (x : List LogLine). lines ++ x) (none_ahead file now end new more.0 more.2 none) ∙ append-nil lines)
+
+-- and no damage is met, where they are legal
+pub not-damaged : (c : Catalogue) (sent : ℕ) (ended : List Ended) (file : List ℕ) (log : List (List LogLine)) (start : EntriesView) (at : ℕ) → JustOpened start → SpellsLog file log → is_log_legal c sent ended (all_lines log) ≡ true → ¬ DamagedLines c sent ended file start at
+not-damaged c sent ended file log start at opened spells legal damage =
+    let more = ahead-on file start damage.behind damage.lines (all_lines log) (all_ahead file start log opened.none_left opened.place spells) damage.read in
+    ⊎_elim
+    (λ (line : DamagedLine file damage.behind at). sound_ahead file damage.behind at more.0 more.2 line)
+    (λ (next : NotNext c sent ended file damage.behind at damage.lines).
+    let from = first_ahead file damage.behind next.behind at next.line more.0 more.2 next.next in
+    let all : all_lines log ≡ damage.lines ++ next.line ∷ from.rest = more.1 ∙ ap (λ (x : List LogLine). damage.lines ++ x) from.is in
+    let parts = and_parts (is_log_legal c sent ended damage.lines) (lines_follow c sent ended damage.lines (next.line ∷ from.rest)) (sym (follow-append c sent ended [] damage.lines (next.line ∷ from.rest)) ∙ ap (is_log_legal c sent ended) (sym all) ∙ legal) in
+    let may = and_parts (line_may_follow c sent ended damage.lines next.line) (lines_follow c sent ended (damage.lines ++ next.line ∷ []) from.rest) parts.1 in
+    true≢false (sym may.0 ∙ next.refused))
+    damage.unfit
 
 -- how far a log was read
 pub record ReadSoFar {S : Type 0} (g : Ghosts S) (c : Catalogue) (sent : ℕ) (ended : List Ended) (start : EntriesView) (site : S) (now : EntriesView) (lines : List LogLine) (mid : S) : Type 0 where

@@ -1,6 +1,6 @@
 -- What is picked of a list of lines, one by one.
-use Rattle.std.proofs.Common.{◌≡◌, ◌∙◌, ◌≤◌, ◌<◌, ◌+◌, take, get_or, ℕ, List, [], ◌∷◌, ◌++◌, length, map, filter, filter_map, reverse, Bool, true, false, not, cond, ◌&&◌, ◌==◌, bytes_eq, Option, Some, None, option_map, refl, sym, ap, subst, arith, All}
-use Rattle.std.specs.List.{flat_map, list_all, cons_option, find}
+use Rattle.std.proofs.Common.{◌≡◌, ◌∙◌, ◌<◌, ◌+◌, take, get_or, ℕ, List, [], ◌∷◌, ◌++◌, length, map, filter, filter_map, reverse, Bool, true, false, not, cond, ◌&&◌, ◌==◌, bytes_eq, Option, Some, None, option_map, refl, sym, ap, subst, arith, All}
+use Rattle.std.specs.List.{flat_map, list_all, cons_option}
 use Rattle.std.specs.Option.{option_map_or, IfSome}
 use Rattle.std.proofs.lemmas.Bool.{and_parts, eqb-true, false≢true}
 use Rattle.std.proofs.lemmas.List.{take_more}
@@ -10,17 +10,17 @@ use Rattle.qc_base.specs.declared.log_line.LogRecord.{LogRecord}
 use Rattle.qc_base.specs.declared.log_line.LogLine.{LogLine}
 use Rattle.qc_base.specs.declared.log_line.LogLine.TheVariants.{Opened, Registered, Written, Forgot, Done}
 use Rattle.qc_base.specs.declared.log_line.Notice.{Notice}
-use Rattle.qc_base.specs.LogLines.{Entry, Registration, has_phase, registered_by, written_by, is_forgotten, entries, of_resource, kept_entries, unforgotten, registrations, phase_of, phases_of, notices_to}
+use Rattle.qc_base.specs.LogLines.{Entry, Registration, has_phase, registered_by, is_forgotten, entries, of_resource, unforgotten, phase_of, phases_of, notices_to}
 use Rattle.qc_catalogue.specs.declared.catalogue.Catalogue.{Catalogue}
 use Rattle.qc_catalogue.specs.declared.catalogue.Resource.{Resource}
 use Rattle.qc_catalogue.specs.Lookup.{resource_named}
 use Rattle.qc_catalogue.specs.Rows.{has_its_phases}
 use Rattle.crm_driver.specs.Puts.{RowPut}
-use Rattle.crm_driver.specs.RowRules.{rules_of, put_of}
+use Rattle.crm_driver.specs.RowRules.{put_of}
 use Rattle.crm_history.specs.declared.ended.Ended.{Ended}
 use Rattle.crm_history.specs.Legal.{has_phases, line_may_follow, lines_follow, is_log_legal}
 use Rattle.crm_recovery.specs.Settling.{puts_of, registration_puts, phase_puts}
-use Rattle.crm_recovery.specs.Tellings.{Plan, IsReady, is_kept, kept_by, new_plan, phase_flag, heard_by, heard_in, plan_by, plans, plan_notices, plan_puts}
+use Rattle.crm_recovery.specs.Tellings.{Plan, IsReady, kept_by, new_plan, phase_flag, heard_by, heard_in, plan_by, plans, plan_notices, plan_puts}
 
 -- the unforgotten records of a resource
 

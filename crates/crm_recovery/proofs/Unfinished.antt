@@ -1,10 +1,10 @@
 -- The attempts that lines leave unfinished, and a log behind their Done.
-use Rattle.std.proofs.Common.{◌≡◌, ◌∙◌, ℕ, zero, ◌+◌, ◌<◌, ◌≤◌, ◌==◌, nat_lt, List, [], ◌∷◌, ◌++◌, map, filter, filter_map, find, count_by, Bool, true, false, cond, not, ◌&&◌, ◌||◌, Option, Some, None, refl, sym, ap, subst, arith, true≢false, eq-eqb, append_assoc, append-nil, ⊎_elim, All}
-use Rattle.std.specs.List.{flat_map, list_all, list_any, enumerate_from, cons_option}
+use Rattle.std.proofs.Common.{◌≡◌, ◌∙◌, ℕ, ◌<◌, ◌≤◌, ◌==◌, nat_lt, List, [], ◌∷◌, ◌++◌, map, filter, filter_map, find, count_by, Bool, true, false, cond, not, ◌&&◌, ◌||◌, Some, refl, sym, ap, subst, arith, true≢false, eq-eqb, append_assoc, append-nil, ⊎_elim, All}
+use Rattle.std.specs.List.{list_all, list_any, enumerate_from}
 use Rattle.std.specs.Option.{IfSome}
 use Rattle.std.proofs.Math.Bool.{and_assoc, or-false}
 use Rattle.std.proofs.lemmas.Bool.Decides.{nat_tests}
-use Rattle.std.proofs.lemmas.Bool.{and_parts, cases_Bool, cases_lt, eqb-true, ltb-true, ne_eqb}
+use Rattle.std.proofs.lemmas.Bool.{and_parts, cases_lt, eqb-true, ltb-true, ne_eqb}
 use Rattle.std.proofs.lemmas.List.Elements.{filter_map-append}
 use Rattle.std.proofs.lemmas.List.Folds.{list_any-append}
 use Rattle.qc_base.specs.declared.log_line.LogLine.{LogLine}
@@ -204,7 +204,7 @@ all-finished lines =
 -- and each of them may follow
 
 module _ (c : Catalogue) (sent : ℕ) (ended : List Ended) where
-  follow-append : (before xs ys : List LogLine) → lines_follow c sent ended before (xs ++ ys) ≡ (lines_follow c sent ended before xs && lines_follow c sent ended (before ++ xs) ys)
+  pub follow-append : (before xs ys : List LogLine) → lines_follow c sent ended before (xs ++ ys) ≡ (lines_follow c sent ended before xs && lines_follow c sent ended (before ++ xs) ys)
   follow-append before [] ys = ap (λ (b : List LogLine). lines_follow c sent ended b ys) (sym (append-nil before))
   follow-append before (x ∷ xs) ys =
       ap (λ (b : Bool). line_may_follow c sent ended before x && b) (follow-append (before ++ x ∷ []) xs ys ∙ ap (λ (b : List LogLine). lines_follow c sent ended (before ++ x ∷ []) xs && lines_follow c sent ended b ys) (append_assoc before (x ∷ []) xs))

@@ -5,14 +5,13 @@ use qc_base::NoMemory;
 use qc_site::Failed;
 use thiserror::Error;
 
-/// Why a recovery stopped (docs/RULES.md, "Recovery"). The attempts before the one at which it stopped are done; the
-/// log is opened again, and recovered again.
+/// Why a recovery stopped (docs/RULES.md, "Recovery"). The log is opened again, and recovered again.
 #[derive(Clone, Copy, Debug, PartialEq, Eq, Error)]
 pub enum FinishError {
     /// A call of the site failed, at a put or at a force.
     #[error("the site failed")]
     SiteFault,
-    /// Memory was wanting. No row of the attempt at hand was put.
+    /// Memory was wanting.
     #[error("memory was wanting")]
     NoMemory,
 }

@@ -79,9 +79,10 @@ fn finish_one<S: Site>(
 /// flag true. Then its Done is forced as a group of its own, before the next attempt's phase. A row that isn't there,
 /// which no honest site of a catalogue lacks, is passed over.
 ///
-/// The lines are all that the log has, and it is at its end. `SiteFault` comes only where the site's count of faults
-/// rose: at a put, or at a force. The attempts before are then done, and the log is opened again. `NoMemory` comes
-/// before the first put of an attempt.
+/// The lines are those that were read of the log, which is at its end, with nothing waiting. A crash at any moment leaves
+/// a front of this: whole attempts, and of the next one some of its puts and no Done. `SiteFault` comes only where the
+/// site's count of faults rose: at a put, or at a force. After an error the log is opened again. The memory for an
+/// attempt is taken before its first put.
 pub fn finish_all<S: Site>(
     alloc: Global,
     log: &mut CrmLog,

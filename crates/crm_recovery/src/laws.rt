@@ -7,9 +7,11 @@ ghost use Rattle.qc_base.specs.declared.log_line.LogLine.{LogLine};
 ghost use Rattle.qc_catalogue.specs.Catalogue.{IsCatalogueOf};
 ghost use Rattle.qc_catalogue.specs.declared.catalogue.Catalogue.{Catalogue};
 ghost use Rattle.qc_catalogue.specs.Rows.{has_its_phases};
-ghost use Rattle.crm_log.specs.Log.{all_lines};
+ghost use Rattle.qc_entries.specs.Entries.{EntriesView};
+ghost use Rattle.crm_log.specs.Log.{SpellsLog, all_lines};
 ghost use Rattle.crm_history.specs.declared.ended.Ended.{Ended};
 ghost use Rattle.crm_history.specs.Legal.{is_log_legal};
+ghost use Rattle.crm_recovery.specs.Reading.{DamagedLines, JustOpened};
 ghost use Rattle.crm_recovery.specs.Settling.{done_groups, settled_rows, settling_puts};
 
 /// Each resource of a catalogue that was read hears of the phase in which it puts: of the abort phase where it is early,
@@ -32,4 +34,11 @@ pub fn where_all_is_done_nothing_is_put()
         → unfinished lines ≡ [] → settling_puts c ended lines ≡ [] }
     ensures rows { (c : Catalogue) (ended : List Ended) (lines : List LogLine) (rows : OutsideRows)
         → unfinished lines ≡ [] → settled_rows c ended lines rows ≡ rows }
+{}
+
+/// A file that spells a legal log is damaged nowhere.
+pub fn a_legal_log_is_not_damaged()
+    ensures { (c : Catalogue) (sent : ℕ) (ended : List Ended) (file : List ℕ) (log : List (List LogLine))
+        (start : EntriesView) (at : ℕ) → JustOpened start → SpellsLog file log
+        → is_log_legal c sent ended (all_lines log) ≡ true → ¬ DamagedLines c sent ended file start at }
 {}

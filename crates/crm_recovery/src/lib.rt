@@ -15,8 +15,8 @@
 //! isn't told again.
 //!
 //! `specs/Settling.antt` says what is told, which rows are put and which lines are added; `specs/Reading.antt` where a
-//! log is damaged; and `specs/Calls.antt` what `finish_all` leaves of log and site. What a crash in the midst of a
-//! recovery leaves is not said yet.
+//! log is damaged; `specs/Calls.antt` what `finish_all` leaves of log and site; and `specs/Moments.antt` what a crash in
+//! the midst of it leaves.
 #![tactic(auto)]
 
 mod error;
@@ -30,6 +30,7 @@ mod telling;
 pub use error::FinishError;
 pub use finish::finish_all;
 pub use laws::{
-    each_catalogue_can_be_finished, nothing_is_left_to_finish, where_all_is_done_nothing_is_put,
+    a_legal_log_is_not_damaged, each_catalogue_can_be_finished, nothing_is_left_to_finish,
+    where_all_is_done_nothing_is_put,
 };
 pub use reading::read_lines;

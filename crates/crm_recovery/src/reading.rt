@@ -1,8 +1,10 @@
 // A log's lines, each of which may follow those before it.
-ghost use Rattle.std.specs.Prelude.{◌≡◌, [], true, IfOk, OnOk};
+ghost use Rattle.std.specs.Prelude.{◌≡◌, List, true, IfOk, OnOk};
 ghost use Rattle.std.specs.List.{list_all};
 ghost use Rattle.qc_base.specs.Spelling.{is_line};
+ghost use Rattle.qc_base.specs.declared.log_line.LogLine.{LogLine};
 ghost use Rattle.qc_frame.specs.Calls.{LogStands, ReadsOn};
+ghost use Rattle.crm_log.specs.Log.{SpellsLog, all_lines};
 ghost use Rattle.crm_history.specs.Legal.{is_log_legal};
 ghost use Rattle.crm_recovery.specs.Reading.{JustOpened, DamagedLines, SpellsLines};
 
@@ -35,6 +37,8 @@ pub fn read_lines<S: Site>(
     requires opened { JustOpened log.old }
     ensures legal { IfOk result (λ lines. is_log_legal catalogue.now sent ended.now lines.items ≡ true) }
     ensures limits { IfOk result (λ lines. list_all is_line lines.items ≡ true) }
+    ensures read { S.told → (log : List (List LogLine)) → SpellsLog (S.shown site.old).crm_log log
+        → IfOk result (λ lines. lines.items ≡ all_lines log) }
     ensures spelled { S.told → IfOk result (λ lines. SpellsLines (S.shown site.old).crm_log lines.items) }
     ensures ended { OnOk result (log.new.log ≡ record log.old.log {
       place = log.new.log.place;

@@ -1,8 +1,8 @@
 -- What each write keeps of what a crash may leave: a group of lines, a fact, a put, and the end of an attempt.
-use Rattle.std.proofs.Common.{◌≡◌, ◌∙◌, ℕ, ◌==◌, List, [], ◌∷◌, ◌++◌, length, Bool, true, false, not, cond, ◌&&◌, ◌||◌, reverse, refl, sym, ap, subst, true≢false, is_some}
-use Rattle.std.specs.List.{list_all, list_any}
+use Rattle.std.proofs.Common.{◌≡◌, ◌∙◌, ℕ, ◌==◌, List, [], ◌∷◌, ◌++◌, length, Bool, true, false, not, cond, ◌&&◌, ◌||◌, reverse, refl, sym, ap, subst, true≢false}
+use Rattle.std.specs.List.{list_all}
 use Rattle.std.specs.Str.{bytes_eq}
-use Rattle.std.proofs.lemmas.Bool.{and_parts, and_right, or_left, or_right, eqb-true, eq-eqb, false_from_ne_true}
+use Rattle.std.proofs.lemmas.Bool.{and_parts, and_right, eqb-true, eq-eqb, false_from_ne_true}
 use Rattle.std.proofs.lemmas.List.Folds.{list_any-append}
 use Rattle.qc_base.specs.declared.log_line.LogLine.{LogLine}
 use Rattle.qc_base.specs.declared.recording.Row.{Row}
@@ -17,7 +17,7 @@ use Rattle.crm_history.specs.Legal.{is_committed}
 use Rattle.qc_machine.specs.History.{History}
 use Rattle.qc_machine.specs.Holding.{has_row, HaveNoCommon}
 use Rattle.qc_machine.specs.Sound.{ended_in, is_log_of}
-use Rattle.qc_machine.specs.Finishable.{has_key, is_among, is_late, IsFinishable, AreFinishable}
+use Rattle.qc_machine.specs.Finishable.{has_key, is_among, is_late, led_to, HaveAmounts, OthersHave, IsFinishable, AreFinishable}
 use Rattle.qc_machine.specs.OwnLines.{is_own}
 use Rattle.qc_machine.proofs.Crashed.{finishable-rows, finishable-lines, finishable-put}
 use Rattle.qc_machine.proofs.LinesBehind.{legal-front, of-one-alone, unfinished-behind}
@@ -104,20 +104,23 @@ module _ (h : History) (lines more : List LogLine) (a : ℕ) (own : list_all (is
           (λ i. has_row (is.mine (at i)) (outside_row r k)) ∙ false_from_ne_true (has_row (is.mine a) (outside_row r k)) (λ m. true≢false (sym (within (ap (λ n. is_among n (unfinished lines)) (sym at) ∙ e) r k m) ∙ none_here))
       old b e r k none false f = ap (λ t. has_row (cond t mine (is.mine b)) (outside_row r k)) (sym f) ∙ none b (others-stay b f ∙ e)
 
-  -- the end of an attempt whose rows are as they shall be
-  pub done-left : (rows : OutsideRows) (is : AreFinishable h lines rows (unfinished lines))
+  -- the end of an attempt, where its rows now are as they shall be, and others are as they were
+  pub done-left : (rows next : OutsideRows) (is : AreFinishable h lines rows (unfinished lines))
+      → is_among a (unfinished lines) ≡ true
       → is_done (lines ++ more) a ≡ true
-      → (is_among a (unfinished lines) ≡ true → (r k : List ℕ) → has_row (is.mine a) (outside_row r k) ≡ true
-      → rows r k ≡ cond (is_committed a (ended_in h)) (is.now a r k) (is.first a r k))
-      → AreFinishable h (lines ++ more) rows (unfinished (lines ++ more))
-  done-left rows is gone done = record {
+      → ((r k : List ℕ) → has_row (is.mine a) (outside_row r k) ≡ true → next r k ≡ cond (is_committed a (ended_in h)) (is.now a r k) (is.first a r k))
+      → ((r k : List ℕ) → has_row (is.mine a) (outside_row r k) ≡ false → next r k ≡ rows r k)
+      → AreFinishable h (lines ++ more) next (unfinished (lines ++ more))
+  done-left rows next is here gone done beside = record {
     mine = is.mine;
     first = is.first;
     now = is.now;
-    each = λ b e. finishable-lines h.catalogue lines rows b (is.mine b) (is.first b) (is.now b) (is_committed b (ended_in h)) more (of-one-alone a b more own (other b e)) (is.each b (was b e));
+    each = λ b e. finishable-lines h.catalogue lines next b (is.mine b) (is.first b) (is.now b) (is_committed b (ended_in h)) more (of-one-alone a b more own (other b e))
+        (finishable-rows h.catalogue lines rows b (is.mine b) (is.first b) (is.now b) (is_committed b (ended_in h)) next
+        (λ r k m. beside r k (is.apart b a (other b e) (was b e) here (outside_row r k) m)) (is.each b (was b e)));
     apart = λ b d differ e f. is.apart b d differ (was b e) (was d f);
     settled = λ b e. is.settled b (was b e);
-    free = λ r k none. by r k none (is_among a (unfinished lines)) refl (has_row (is.mine a) (outside_row r k)) refl;
+    free = λ r k none. by r k none (has_row (is.mine a) (outside_row r k)) refl;
   }
     where
       finished_now : is_unfinished (lines ++ more) a ≡ false
@@ -129,17 +132,12 @@ module _ (h : History) (lines more : List LogLine) (a : ℕ) (own : list_all (is
       was : (b : ℕ) → is_among b (unfinished (lines ++ more)) ≡ true → is_among b (unfinished lines) ≡ true
       was b e = sym (others-stay b (other b e)) ∙ e
 
-      by : (r k : List ℕ) → ((b : ℕ) → is_among b (unfinished (lines ++ more)) ≡ true → has_row (is.mine b) (outside_row r k) ≡ false) → (t : Bool) → is_among a (unfinished lines) ≡ t → (u : Bool) → has_row (is.mine a) (outside_row r k) ≡ u → rows r k ≡ outside_amount h.outside r k
-      by r k none true here true m = done here r k m ∙ sym (is.settled a here r k m)
-      by r k none t here false m = is.free r k (λ b e. each b e (b == a) refl)
+      by : (r k : List ℕ) → ((b : ℕ) → is_among b (unfinished (lines ++ more)) ≡ true → has_row (is.mine b) (outside_row r k) ≡ false) → (u : Bool) → has_row (is.mine a) (outside_row r k) ≡ u → next r k ≡ outside_amount h.outside r k
+      by r k none true m = done r k m ∙ sym (is.settled a here r k m)
+      by r k none false m = beside r k m ∙ is.free r k (λ b e. each b e (b == a) refl)
         where
           each : (b : ℕ) → is_among b (unfinished lines) ≡ true → (t : Bool) → (b == a) ≡ t → has_row (is.mine b) (outside_row r k) ≡ false
           each b e true f = (λ i. has_row (is.mine (eqb-true b a f i)) (outside_row r k)) ∙ m
-          each b e false f = none b (others-stay b f ∙ e)
-      by r k none false here true m = is.free r k (λ b e. each b e (b == a) refl)
-        where
-          each : (b : ℕ) → is_among b (unfinished lines) ≡ true → (t : Bool) → (b == a) ≡ t → has_row (is.mine b) (outside_row r k) ≡ false
-          each b e true f = absurd (true≢false (sym e ∙ ap (λ n. is_among n (unfinished lines)) (eqb-true b a f) ∙ here))
           each b e false f = none b (others-stay b f ∙ e)
 
 -- a fact that ends an attempt
@@ -154,7 +152,7 @@ committed-other b e ended other =
     stays true = refl
     stays false = refl
 
-pub fact-left : (h g : History) (e : Ended) (lines : List LogLine) (rows : OutsideRows) (is : AreFinishable h lines rows (unfinished lines))
+fact-left : (h g : History) (e : Ended) (lines : List LogLine) (rows : OutsideRows) (is : AreFinishable h lines rows (unfinished lines))
     → g.catalogue ≡ h.catalogue
     → ended_in g ≡ ended_in h ++ e ∷ []
     → ((r k : List ℕ) → (is_among e.attempt (unfinished lines) ≡ true → has_row (is.mine e.attempt) (outside_row r k) ≡ false) → outside_amount g.outside r k ≡ outside_amount h.outside r k)
@@ -189,6 +187,24 @@ fact-left h g e lines rows is catalogue more others new settled = record {
         ∙ (λ j. cond (is_committed (sym at j) (ended_in g)) (is.now (sym at j) r k) (is.first (sym at j) r k))
     values b i r k m false f =
         others r k (λ here. is.apart b e.attempt f i here (outside_row r k) m) ∙ is.settled b i r k m ∙ ap (λ c. cond c (is.now b r k) (is.first b r k)) (sym (same b f))
+
+-- of an attempt of the log, and of another
+
+pub fact-own : (h g : History) (e : Ended) (lines : List LogLine) (rows : OutsideRows) (is : AreFinishable h lines rows (unfinished lines))
+    → g.catalogue ≡ h.catalogue → ended_in g ≡ ended_in h ++ e ∷ [] → is_among e.attempt (unfinished lines) ≡ true
+    → IsFinishable h.catalogue lines rows e.attempt (is.mine e.attempt) (is.first e.attempt) (is.now e.attempt) (is_committed e.attempt (ended_in g))
+    → HaveAmounts (is.mine e.attempt) (outside_amount g.outside) (led_to (is_committed e.attempt (ended_in g)) (is.first e.attempt) (is.now e.attempt))
+    → OthersHave (is.mine e.attempt) (outside_amount g.outside) (outside_amount h.outside)
+    → AreFinishable g lines rows (unfinished lines)
+fact-own h g e lines rows is catalogue more here new settled others =
+    fact-left h g e lines rows is catalogue more (λ r k mine. others r k (mine here)) (λ i. new) (λ i. settled)
+
+pub fact-beside : (h g : History) (e : Ended) (lines : List LogLine) (rows : OutsideRows) → AreFinishable h lines rows (unfinished lines)
+    → g.catalogue ≡ h.catalogue → ended_in g ≡ ended_in h ++ e ∷ [] → is_among e.attempt (unfinished lines) ≡ false
+    → ((r k : List ℕ) → outside_amount g.outside r k ≡ outside_amount h.outside r k)
+    → AreFinishable g lines rows (unfinished lines)
+fact-beside h g e lines rows is catalogue more none same =
+    fact-left h g e lines rows is catalogue more (λ r k mine. same r k) (λ i. absurd (true≢false (sym i ∙ none))) (λ i. absurd (true≢false (sym i ∙ none)))
 
 -- a put of a row that an attempt has a record of, and that its phase puts
 pub put-left : (h : History) (lines : List LogLine) (rows : OutsideRows) (a : ℕ) (resource key : List ℕ) (n : ℕ) (is : AreFinishable h lines rows (unfinished lines))

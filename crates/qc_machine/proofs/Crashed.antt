@@ -1,11 +1,11 @@
 -- Where each unfinished attempt can be finished, history, log and outside rows agree.
-use Rattle.std.proofs.Common.{◌≡◌, ◌∙◌, ℕ, ◌==◌, List, [], ◌∷◌, ◌++◌, length, Bool, true, false, not, cond, ◌&&◌, ◌||◌, reverse, refl, sym, ap, subst, true≢false, is_some}
+use Rattle.std.proofs.Common.{◌≡◌, ◌∙◌, ℕ, ◌==◌, List, [], ◌∷◌, ◌++◌, length, Bool, true, false, not, ◌&&◌, ◌||◌, reverse, refl, sym, ap, subst, true≢false, is_some}
 use Rattle.std.specs.List.{list_any}
 use Rattle.std.specs.Str.{bytes_eq}
 use Rattle.std.proofs.lemmas.Bool.{and_parts, and_left, or_left, or_right, eqb-true, eq-eqb, not-true, false_from_ne_true}
 use Rattle.qc_base.specs.declared.log_line.LogLine.{LogLine}
 use Rattle.qc_base.specs.declared.recording.Row.{Row}
-use Rattle.qc_base.specs.LogLines.{registrations, unforgotten, unfinished}
+use Rattle.qc_base.specs.LogLines.{unforgotten, unfinished}
 use Rattle.qc_base.specs.Rows.{OutsideRows, put_row}
 use Rattle.qc_catalogue.specs.declared.catalogue.Catalogue.{Catalogue}
 use Rattle.qc_play.specs.Play.{outside_row}

@@ -1,6 +1,6 @@
 -- The phase of an attempt that a crash left is finished by a recovery, wherever between two puts the crash was: what was
 -- put before is put again, and comes to the same.
-use Rattle.std.proofs.Common.{◌≡◌, ◌∙◌, ℕ, List, [], ◌∷◌, ◌++◌, Bool, true, false, not, cond, ◌||◌, map, flat_map, reverse, refl, sym, ap, true≢false, Option, Some, is_some}
+use Rattle.std.proofs.Common.{◌≡◌, ◌∙◌, ℕ, List, [], ◌∷◌, Bool, true, false, not, cond, ◌||◌, flat_map, reverse, refl, sym, ap, true≢false, Option, Some, is_some}
 use Rattle.std.specs.List.{list_any}
 use Rattle.std.specs.Option.{option_map_or}
 use Rattle.std.specs.Str.{bytes_eq}
@@ -10,7 +10,7 @@ use Rattle.std.proofs.lemmas.List.Folds.{list_any-append}
 use Rattle.qc_base.specs.declared.log_line.LogLine.{LogLine}
 use Rattle.qc_base.specs.declared.log_line.LogRecord.{LogRecord}
 use Rattle.qc_base.specs.declared.recording.Row.{Row}
-use Rattle.qc_base.specs.LogLines.{Registration, registrations, unforgotten}
+use Rattle.qc_base.specs.LogLines.{Registration, unforgotten}
 use Rattle.qc_base.specs.Rows.{OutsideRows, put_row}
 use Rattle.qc_catalogue.specs.declared.catalogue.Catalogue.{Catalogue}
 use Rattle.qc_catalogue.specs.declared.catalogue.Resource.{Resource}
@@ -22,7 +22,7 @@ use Rattle.qc_play.proofs.OuterLaws.{bytes-same}
 use Rattle.crm_driver.specs.Puts.{RowPut}
 use Rattle.crm_recovery.specs.Settling.{phase_puts, puts_of, registration_puts, rows_after}
 use Rattle.qc_machine.specs.Holding.{has_row}
-use Rattle.qc_machine.specs.Finishable.{has_key, is_late, registration_in, IsFinishable}
+use Rattle.qc_machine.specs.Finishable.{has_key, is_late, IsFinishable}
 use Rattle.qc_machine.proofs.PutRows.{same-put, same-puts, put-other}
 use Rattle.qc_machine.proofs.PhaseRows.{each_put, named_puts, named-rows, new_of, old_of, phase_put, put-here, put-push, puts-by, unnamed-rows, unput}
 
@@ -36,13 +36,18 @@ chain-none first (r ∷ rs) now k c none =
     let parts = or_parts (bytes_eq k r.key) _ none in
     sym (ap (λ b. cond b (Some r.old) (now k)) parts.0) ∙ chain-none first rs (undone r now) k c.1 parts.1
 
-has-key-reverse : (rs : List LogRecord) (k : List ℕ) → has_key rs k ≡ false → has_key (reverse rs) k ≡ false
-has-key-reverse [] k e = refl
-has-key-reverse (r ∷ rs) k e =
-    let parts = or_parts (bytes_eq k r.key) _ e in
+pub has-key-reverse : (rs : List LogRecord) (k : List ℕ) → has_key (reverse rs) k ≡ has_key rs k
+has-key-reverse [] k = refl
+has-key-reverse (r ∷ rs) k =
     ap (λ l. has_key l k) (reverse-append (r ∷ []) rs)
     ∙ list_any-append (λ (x : LogRecord). bytes_eq k x.key) (reverse rs) (r ∷ [])
-    ∙ or_from (has_key (reverse rs) k) _ (has-key-reverse rs k parts.1) (or_from (bytes_eq k r.key) false parts.0 refl)
+    ∙ ap (λ b. b || (bytes_eq k r.key || false)) (has-key-reverse rs k) ∙ swap (has_key rs k) (bytes_eq k r.key)
+  where
+    swap : (x y : Bool) → (x || (y || false)) ≡ (y || x)
+    swap true true = refl
+    swap true false = refl
+    swap false true = refl
+    swap false false = refl
 
 module _ (resource : List ℕ) where
   abbrev puts_old : List LogRecord → OutsideRows → OutsideRows
@@ -85,7 +90,7 @@ module _ (resource : List ℕ) where
 
 -- the records of a chain are of the attempt's rows
 
-chain-inside : (mine : List Row) (resource : List ℕ) (rs : List LogRecord) (first now : List ℕ → Option ℕ) → IsChain first rs now → ((k : List ℕ) → is_some (now k) ≡ true → has_row mine (outside_row resource k) ≡ true)
+pub chain-inside : (mine : List Row) (resource : List ℕ) (rs : List LogRecord) (first now : List ℕ → Option ℕ) → IsChain first rs now → ((k : List ℕ) → is_some (now k) ≡ true → has_row mine (outside_row resource k) ≡ true)
     → (k : List ℕ) → has_row mine (outside_row resource k) ≡ false → has_key rs k ≡ false
 chain-inside mine resource [] first now c h k none = refl
 chain-inside mine resource (r ∷ rs) first now c h k none =
@@ -121,7 +126,7 @@ module _ (c : Catalogue) (lines : List LogLine) (attempt : ℕ) (mine : List Row
       new : (b : Bool) → has_key (reverse (kept r)) k ≡ b → puts_new r (kept r) rows r k ≡ now r k
       new true e = ap (λ l. puts_new r l rows r k) (sym (reverse-reverse (kept r))) ∙ new-any r (reverse (kept r)) (first r) (now r) rows k (is.chain r) (is.there r k m e) e
       new false e =
-          ap (λ l. puts_new r l rows r k) (sym (reverse-reverse (kept r))) ∙ unput new_of r (reverse (reverse (kept r))) rows k (has-key-reverse (reverse (kept r)) k e) ∙ is.unwritten r k m e
+          ap (λ l. puts_new r l rows r k) (sym (reverse-reverse (kept r))) ∙ unput new_of r (reverse (reverse (kept r))) rows k (has-key-reverse (reverse (kept r)) k ∙ e) ∙ is.unwritten r k m e
           ∙ sym (chain-none (first r) (reverse (kept r)) (now r) k (is.chain r) e)
 
       old : (b : Bool) → has_key (reverse (kept r)) k ≡ b → puts_old r (reverse (kept r)) rows r k ≡ first r k
@@ -163,7 +168,7 @@ module _ (c : Catalogue) (lines : List LogLine) (attempt : ℕ) (mine : List Row
       step x found true true = refl
       step x found true false =
           (λ i. puts_new (found_name (λ (x : Resource). x.name) r c.resources x found i) (sym (reverse-reverse (kept r)) i) rows r k)
-          ∙ unput new_of r (reverse (reverse (kept r))) rows k (has-key-reverse (reverse (kept r)) k keyless)
+          ∙ unput new_of r (reverse (reverse (kept r))) rows k (has-key-reverse (reverse (kept r)) k ∙ keyless)
       step x found false true =
           (λ i. puts_old (found_name (λ (x : Resource). x.name) r c.resources x found i) (reverse (kept r)) rows r k)
           ∙ unput old_of r (reverse (kept r)) rows k keyless

@@ -5,6 +5,7 @@ pub mod Calls
 pub mod Changed
 pub mod Counts
 pub mod Crashed
+pub mod CutShort
 pub mod EachOnce
 pub mod Ended
 pub mod Finishing
@@ -24,6 +25,7 @@ pub mod PhaseRows
 pub mod Playable
 pub mod PlayerSlots
 pub mod PutRows
+pub mod QuietFacts
 pub mod Recorders
 pub mod Refusals
 pub mod Resources

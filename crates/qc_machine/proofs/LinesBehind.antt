@@ -1,10 +1,9 @@
 -- Lines of others behind change nothing that is said of an attempt, and what stands in front of them was legal.
-use Rattle.std.proofs.Common.{◌≡◌, ◌∙◌, ℕ, ◌==◌, List, [], ◌∷◌, ◌++◌, Bool, true, false, not, ◌&&◌, sym, ap, refl, true≢false}
+use Rattle.std.proofs.Common.{◌≡◌, ◌∙◌, ℕ, ◌==◌, List, [], ◌∷◌, ◌++◌, true, false, not, ◌&&◌, sym, ap, refl, true≢false}
 use Rattle.std.specs.List.{list_all}
 use Rattle.std.proofs.lemmas.Bool.{and_parts, and_from, or_from, eqb-true, eq-eqb, false_from_ne_true}
 use Rattle.qc_base.specs.declared.log_line.LogLine.{LogLine}
-use Rattle.qc_base.specs.declared.log_line.LogRecord.{LogRecord}
-use Rattle.qc_base.specs.LogLines.{Registration, attempt_of_line, is_done, is_opened, is_unfinished, registrations, unforgotten}
+use Rattle.qc_base.specs.LogLines.{attempt_of_line, is_unfinished, registrations, unforgotten}
 use Rattle.qc_catalogue.specs.declared.catalogue.Catalogue.{Catalogue}
 use Rattle.crm_history.specs.declared.ended.Ended.{Ended}
 use Rattle.crm_history.specs.Legal.{line_may_follow, lines_follow, is_log_legal}

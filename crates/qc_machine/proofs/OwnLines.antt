@@ -9,7 +9,7 @@ use Rattle.qc_base.specs.declared.log_line.LogLine.{LogLine}
 use Rattle.qc_base.specs.declared.log_line.LogLine.TheVariants.{Opened, Registered, Written, Forgot, Done}
 use Rattle.qc_base.specs.declared.log_line.LogRecord.{LogRecord}
 use Rattle.qc_base.specs.declared.log_line.Notice.{Notice}
-use Rattle.qc_base.specs.LogLines.{Entry, Registration, attempt_of_line, registered_by, written_by, forgets_entry, is_done_line, is_opened, is_done, registrations, entries, is_forgotten, kept_entries, of_resource, unforgotten, phase_of, phases_of, has_phase, notices_to, commit_heard, abort_heard}
+use Rattle.qc_base.specs.LogLines.{Entry, Registration, registered_by, written_by, forgets_entry, is_done_line, is_opened, is_done, registrations, entries, is_forgotten, kept_entries, of_resource, unforgotten, phase_of, phases_of, has_phase, notices_to, commit_heard, abort_heard}
 use Rattle.qc_catalogue.specs.declared.catalogue.Catalogue.{Catalogue}
 use Rattle.qc_catalogue.specs.declared.catalogue.Resource.{Resource}
 use Rattle.qc_catalogue.specs.Lookup.{resource_named}

@@ -18,6 +18,11 @@ ended_by (Played id attempt kind at) = Some (record { attempt = attempt; id = id
 ended_by (Failed id attempt at) = Some (record { attempt = attempt; id = id; committed = false })
 ended_by _ = None
 
+-- whether it commits an attempt
+abbrev pub commits : Fact → Bool
+commits (Played id attempt kind at) = true
+commits _ = false
+
 abbrev pub ended_in : History → List Ended
 ended_in h = filter_map ended_by h.facts
 

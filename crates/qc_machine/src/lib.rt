@@ -12,9 +12,11 @@
 //! - `Laws`: what the laws of steps speak of.
 //! - `Sites`: the history that a site stands for, the state that it is read as, and what a crash leaves of it.
 //! - `Opening`: where the files of a site stop being a history.
-//! - `LogAndRows`: the log of compensations with the outside rows; `Carrying` and `Preparing`: effects of a call, and the
-//!   votes of resources; `Underway`: an attempt from its first call to its phase, with all that it does there. The orders
-//!   don't use these yet: an attempt that would change something outside isn't built.
+//! - `LogAndRows`: the log of compensations with the outside rows; `Carrying` and `Preparing`: effects of a call, and
+//!   the votes of resources; `Underway`: an attempt from its first call to its phase, with all that it does there. The
+//!   orders don't use these yet: an attempt that would change something outside isn't built.
+//! - `OwnLines`: the lines of one attempt. `Sound`: when history, log and outside rows agree. `Finishable`: what a
+//!   crash may leave of them, for a recovery to finish.
 //! - `Worked`, `WorkedMoves`, `WorkedEffects`: worked orders and attempts, which the functions of `worked` and
 //!   `worked_effects` compute.
 //!
@@ -22,7 +24,8 @@
 //! machine"), what holds of every legal history on `messages_stand_in_one_place`, `totals_are_settled` and
 //! `each_message_can_be_played` ("Histories"), which outside rows a history has on `resources_keep_their_rows`, that
 //! listings of tables stand in order on `tables_are_listed_in_order`, and how a move is cut into batches on
-//! `batches_have_all_ids_in_order`.
+//! `batches_have_all_ids_in_order`. What holds of a log beside its history, and of what a crash may leave of the two,
+//! stands on the functions of `sound_laws` (docs/RULES.md, "Recovery").
 #![tactic(auto)]
 
 mod error;
@@ -40,7 +43,8 @@ pub use laws::{
 };
 pub use limits::Limits;
 pub use sound_laws::{
-    a_log_is_of_a_longer_history, a_phase_may_be_put_again, a_recovered_site_is_sound,
+    a_fact_that_commits_nothing_keeps_a_site_sound, a_log_is_of_a_longer_history,
+    a_phase_may_be_put_again, a_recovered_site_is_sound, a_recovery_may_be_cut_short,
     each_write_keeps_what_can_be_finished, settling_keeps_rows_there,
     unfinished_attempts_are_told_in_order, what_can_be_finished_is_sound,
     where_all_is_done_rows_are_settled,

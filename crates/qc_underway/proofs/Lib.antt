@@ -8,3 +8,10 @@ mod Running
 pub mod FewLines
 mod Spending
 mod SetAside
+mod Forgetting
+mod Kept
+pub mod Made
+pub mod Orderly
+mod Asking
+mod Delivering
+mod Ending

@@ -1,2 +1,5 @@
 pub mod Standing
 pub mod Calls
+pub mod Compensators
+pub mod Votes
+pub mod Phase

@@ -6,15 +6,17 @@ use Rattle.qc_entries.specs.Entries.{EntriesView}
 use Rattle.qc_catalogue.specs.declared.catalogue.Catalogue.{Catalogue}
 use Rattle.qc_txn.specs.Attempt.{AttemptView, PlaysBy}
 use Rattle.crm_clerk.specs.Clerk.{ClerkView}
+use Rattle.qc_underway.specs.Compensators.{IsOrderly}
 use Rattle.qc_underway.specs.Standing.{HasRoomLeft, has_phases}
 
 module _ {S : Type 0} (g : Ghosts S) where
-  -- the log stands on the site, and clerk and log have room for the calls that are left
+  -- the log stands on the site, the clerk is in order, and there is room in both for the calls that are left
   pub record StandsBy (c : Catalogue) (site : S) (log : EntriesView) (clerk : ClerkView) (a : AttemptView) : Type 0 where
     pub plays : PlaysBy c a
     pub phases : has_phases c ≡ true
     pub stands : LogStands g log.log site
     pub room : HasRoomLeft c a clerk log
+    pub orderly : IsOrderly clerk
 
   -- and so it is unless the site failed
   abbrev pub IsReady : Catalogue → S → EntriesView → ClerkView → AttemptView → Bool → Type 0

@@ -5,8 +5,12 @@
 #![tactic(auto)]
 
 mod bench;
+mod closing;
 
 pub use bench::{Answer, Bench};
+pub use closing::Ended;
 
+#[cfg(test)]
+mod closing_tests;
 #[cfg(test)]
 mod tests;

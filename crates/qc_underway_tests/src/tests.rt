@@ -14,20 +14,20 @@ use qc_site::{Site, SiteFile};
 use std::alloc::Global;
 use std::test::Fail;
 
-fn name(bytes: &[u8]) -> Result<Name, NoMemory> {
+pub(crate) fn name(bytes: &[u8]) -> Result<Name, NoMemory> {
     Name::read(bytes).ok_or(NoMemory)
 }
 
-fn text(bytes: &[u8]) -> Result<Text, NoMemory> {
+pub(crate) fn text(bytes: &[u8]) -> Result<Text, NoMemory> {
     Text::read(bytes).ok_or(NoMemory)
 }
 
-fn amount(number: u64) -> Result<Amount, NoMemory> {
+pub(crate) fn amount(number: u64) -> Result<Amount, NoMemory> {
     Amount::new(number).ok_or(NoMemory)
 }
 
 // A recording of one call of a component of Orders, of this many bolts or this number alone.
-fn recorded(
+pub(crate) fn recorded(
     alloc: Global,
     component: &[u8],
     method: &[u8],
@@ -71,7 +71,7 @@ fn seen(
 // The rows that the calls name, as they were opened.
 fn state(alloc: Global) -> Result<CallState, NoMemory> {
     let rows = [
-        seen(Space::Inside, b"stock", b"bolt", 10)?,
+        seen(Space::Inside, b"stock", b"bolt", 30)?,
         seen(Space::Inside, b"sold", b"bolt", 0)?,
         seen(Space::Outside, b"till", b"drawer", 100)?,
         seen(Space::Outside, b"post", b"letters", 0)?,
@@ -95,7 +95,7 @@ fn site_that_stops(alloc: Global, kind: CallKind, nth: u32) -> Result<MemSite, F
     Ok(site)
 }
 
-fn bench_that_stops(
+pub(crate) fn bench_that_stops(
     alloc: Global,
     catalogue: &Catalogue,
     recording: &Recording,
@@ -113,7 +113,11 @@ fn bench_that_stops(
 }
 
 // How many lines an image of this moment spells, and the amounts of drawer and letters.
-fn seen_in(alloc: Global, site: &MemSite, choice: Choice) -> Result<(usize, u64, u64), Fail> {
+pub(crate) fn seen_in(
+    alloc: Global,
+    site: &MemSite,
+    choice: Choice,
+) -> Result<(usize, u64, u64), Fail> {
     let mut image = site.crash_image(alloc, choice)?;
     let drawer = image.row_get(b"till", b"drawer")?;
     let letters = image.row_get(b"post", b"letters")?;
@@ -235,7 +239,7 @@ fn the_lines_of_a_call_are_those_of_its_effects(rt: HostRuntime) -> Result<(), F
 #[test]
 fn a_call_that_fails_does_nothing(rt: HostRuntime) -> Result<(), Fail> {
     let alloc = rt.alloc();
-    let place = recorded(alloc, b"Order", b"Place", b"bolt", 11).map_err(|_| "no call")?;
+    let place = recorded(alloc, b"Order", b"Place", b"bolt", 31).map_err(|_| "no call")?;
     assert_eq!(rt;
         ran(alloc, &place, CallKind::RowPut, 1)?,
         (Answer::FailedAt(1), [(0, 100, 0), (0, 100, 0), (0, 100, 0)])

@@ -1,4 +1,4 @@
-use Rattle.std.proofs.Common.{◌≡◌, ◌∙◌, ◌<◌, ◌+◌, ℕ, List, [], ◌∷◌, ◌++◌, length, map, take, get_or, slice_index_or, true, Result, Err, Vec, Global, sym, ap, subst, arith, rules, All}
+use Rattle.std.proofs.Common.{◌≡◌, ◌∙◌, ◌<◌, ◌+◌, ℕ, List, length, map, take, get_or, true, Result, Err, Vec, Global, sym, subst, arith, rules, All}
 use Rattle.std.proofs.lemmas.List.{take_more}
 use Rattle.qc_base.specs.LogLines.{unfinished as unfinished_attempts}
 use Rattle.qc_base.specs.Spelling.{is_attempt}

@@ -1,4 +1,4 @@
-use Rattle.std.proofs.Common.{◌≡◌, ◌∙◌, ℕ, List, [], ◌∷◌, ◌++◌, Bool, true, false, map, Result, Ok, Err, refl, sym, ap, subst, rules, All, length, Vec, Global}
+use Rattle.std.proofs.Common.{◌≡◌, ◌∙◌, ℕ, List, [], ◌∷◌, ◌++◌, Bool, true, map, Result, Ok, Err, refl, sym, ap, subst, rules, All}
 use Rattle.std.specs.List.{flat_map}
 use Rattle.qc_base.specs.LogLines.{phases_of}
 use Rattle.qc_base.specs.declared.log_line.Notice.{Notice}
@@ -6,7 +6,7 @@ use Rattle.qc_frame.proofs.Staged.{stands_reserved}
 use Rattle.qc_entries.specs.Entries.{EntriesView}
 use Rattle.crm_driver.specs.Puts.{RowPut, MakesPuts}
 use Rattle.crm_history.specs.Legal.{is_committed}
-use Rattle.crm_recovery.specs.Settling.{phase_puts, recovery_of}
+use Rattle.crm_recovery.specs.Settling.{phase_puts}
 use Rattle.qc_base.specs.declared.log_line.LogLine.{LogLine}
 use Rattle.qc_base.specs.declared.log_line.Recovered.{Recovered}
 use Rattle.qc_site.specs.declared.site.Failed.{Failed}

@@ -1,4 +1,4 @@
-use Rattle.std.proofs.Common.{◌≡◌, ◌∙◌, ◌+◌, ◌≤◌, [], length, refl, sym, ap, subst, arith}
+use Rattle.std.proofs.Common.{◌∙◌, [], length, refl, ap, arith}
 use Rattle.qc_base.specs.Spelling.{spelled_line}
 use Rattle.qc_base.specs.declared.log_line.LogLine.TheVariants.{Done}
 use Rattle.qc_base.proofs.LogSpellings.{line-bounded}

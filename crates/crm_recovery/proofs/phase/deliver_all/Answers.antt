@@ -1,4 +1,4 @@
-use Rattle.std.proofs.Common.{◌≡◌, ◌∙◌, ◌<◌, ◌+◌, ℕ, List, [], ◌∷◌, ◌++◌, map, drop, length, slice_index_or, slice_set, vec_len, vec_capacity, Result, Ok, Err, refl, sym, ap, subst, arith, rules, append-nil, All}
+use Rattle.std.proofs.Common.{◌≡◌, ◌<◌, ◌+◌, List, [], ◌∷◌, map, drop, length, slice_index_or, slice_set, vec_len, vec_capacity, Result, Err, refl, sym, ap, subst, arith, rules, append-nil, All}
 use Rattle.std.proofs.lemmas.List.{drop_more, drop-set-lt}
 use Rattle.std.proofs.lemmas.List.Elements.{All-head}
 use Rattle.std.specs.List.{flat_map}
@@ -6,7 +6,6 @@ use Rattle.qc_site.specs.declared.site.Failed.{Failed}
 use Rattle.crm_driver.specs.Puts.{MakesPuts}
 use Rattle.crm_driver.proofs.Putting.{none_made}
 use Rattle.crm_recovery.specs.Tellings.{Plan, IsReady, plan_of, plan_puts}
-use Rattle.crm_recovery.specs.declared.telling.Telling.{Telling}
 use Rattle.crm_recovery.proofs.Delivering.{Delivering, delivered-one, delivery-failed}
 use Rattle.crm_recovery.proofs.phase.deliver_all.Goals as goal
 

@@ -1,4 +1,4 @@
-use Rattle.std.proofs.Common.{◌≡◌, Bool, true, List, filter_map, reverse, sym, subst}
+use Rattle.std.proofs.Common.{Bool, true, List, filter_map, reverse, sym, subst}
 use Rattle.qc_base.specs.declared.log_line.LogRecord.{LogRecord}
 use Rattle.qc_base.specs.LogLines.{commit_heard, abort_heard}
 use Rattle.crm_driver.specs.Puts.{MakesPuts}

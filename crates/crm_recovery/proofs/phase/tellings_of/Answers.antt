@@ -1,4 +1,4 @@
-use Rattle.std.proofs.Common.{◌≡◌, ◌∙◌, ◌<◌, ◌++◌, ℕ, List, [], ◌∷◌, length, map, take, filter_map, Option, Some, None, option_map, Bor, sym, ap, arith, take_all, append-nil, Vec, Global}
+use Rattle.std.proofs.Common.{◌≡◌, ◌∙◌, ◌<◌, List, [], ◌∷◌, length, map, Option, Some, None, option_map, Bor, sym, ap, arith, append-nil, Vec, Global}
 use Rattle.std.proofs.lemmas.List.{map-append}
 use Rattle.qc_base.specs.declared.log_line.LogLine.{LogLine}
 use Rattle.qc_base.specs.LogLines.{unforgotten}

@@ -1,18 +1,16 @@
-use Rattle.std.proofs.Common.{◌≡◌, ◌∙◌, ℕ, List, [], ◌∷◌, ◌++◌, ◌&&◌, Bool, true, false, not, refl, sym, ap, subst, arith, rules, IsErrOf, Vec, Global}
+use Rattle.std.proofs.Common.{◌≡◌, ◌∙◌, ℕ, List, [], ◌∷◌, ◌++◌, ◌&&◌, true, false, sym, ap, subst, arith, rules, IsErrOf}
 use Rattle.std.specs.Option.{IfSome}
 use Rattle.qc_base.specs.Spelling.{is_line}
 use Rattle.qc_base.specs.declared.log_line.LogLine.{LogLine}
 use Rattle.qc_site.specs.Image.{Image, bytes_of}
-use Rattle.qc_site.proofs.Moments.{started}
-use Rattle.qc_frame.specs.Gate.{After}
-use Rattle.qc_frame.specs.Log.{LogView, SameFrom}
+use Rattle.qc_frame.specs.Log.{LogView}
 use Rattle.qc_frame.specs.declared.error.LogError.{LogError}
-use Rattle.qc_frame.specs.declared.error.LogError.TheVariants.{SiteFault, Damaged}
+use Rattle.qc_frame.specs.declared.error.LogError.TheVariants.{SiteFault}
 use Rattle.qc_entries.specs.Entries.{EntriesView, NoEntries}
 use Rattle.crm_log.specs.Lines.{NextLine}
-use Rattle.crm_history.specs.Legal.{is_log_legal, line_may_follow}
+use Rattle.crm_history.specs.Legal.{line_may_follow}
 use Rattle.crm_recovery.specs.Reading.{DamagedLines}
-use Rattle.crm_recovery.proofs.LinesRead.{ReadSoFar, same-file, damaged-line, refused-line, next-push, all-push, spelled-all, keeps-through, moments-through}
+use Rattle.crm_recovery.proofs.LinesRead.{ReadSoFar, same-file, damaged-line, refused-line, next-push, all-push, spelled-all, read-all, keeps-through, moments-through}
 use Rattle.crm_recovery.proofs.reading.read_lines.Goals as goal
 
 pub returns-in_err-next-clause-reads : goal.returns-in_err-next-clause-reads
@@ -149,3 +147,16 @@ returns-clause-reads g c =
       keeps = keeps-through site c.args.catalogue.now c.args.sent c.args.ended.now c.args.log.now c.args.site.now loop.log loop.lines.items loop.site so (λ t i told le here. g.met.S.Site.counts_now loop.site t i told le here)
           _ (IsErrOf c.next_line.result SiteFault) c.next_line.new.site (λ e. search rules) (λ e. search rules) c.next_line.ensures.reads.keeps;
     }
+
+pub returns-clause-read : goal.returns-clause-read
+returns-clause-read g c = λ told log spells.
+    let site = g.S.Site in
+    let loop = c.loop-lines in
+    let so = loop.invariant in
+    let old : EntriesView = loop.log in
+    let new : EntriesView = c.next_line.new.self in
+    let now : List ℕ = bytes_of old.log.file (site.shown c.next_line.new.site) in
+    let here : List ℕ = bytes_of old.log.file (site.shown loop.site) in
+    let end : NoEntries here now old new = search rules in
+    let same = same-file site c.args.catalogue.now c.args.sent c.args.ended.now c.args.log.now c.args.site.now old loop.lines.items loop.site c.requires.opened so told in
+    read-all (site.shown c.args.site.now).crm_log now c.args.log.now old new loop.lines.items log c.requires.opened spells (so.read told) (subst (λ (f : List ℕ). NoEntries f now old new) same end)

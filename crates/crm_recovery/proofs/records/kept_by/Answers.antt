@@ -1,4 +1,4 @@
-use Rattle.std.proofs.Common.{◌≡◌, ◌∙◌, Bool, cond, Some, None, sym, ap}
+use Rattle.std.proofs.Common.{◌∙◌, Bool, cond, Some, None, sym, ap}
 use Rattle.qc_base.specs.declared.log_line.LogLine.{LogLine}
 use Rattle.crm_recovery.specs.Tellings.{kept_by}
 use Rattle.crm_recovery.proofs.records.kept_by.Goals as goal

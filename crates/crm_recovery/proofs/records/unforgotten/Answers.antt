@@ -1,4 +1,4 @@
-use Rattle.std.proofs.Common.{◌≡◌, ◌∙◌, ◌<◌, ◌++◌, ℕ, List, [], ◌∷◌, length, take, filter_map, Option, Some, None, sym, ap, subst, arith, take_all, append-nil, Vec, Global}
+use Rattle.std.proofs.Common.{◌≡◌, ◌∙◌, ◌<◌, List, length, take, filter_map, Option, Some, None, sym, ap, arith, take_all, append-nil, Vec, Global}
 use Rattle.qc_base.specs.declared.log_line.LogLine.{LogLine}
 use Rattle.qc_base.specs.declared.log_line.LogRecord.{LogRecord}
 use Rattle.crm_recovery.specs.Tellings.{kept_by}

@@ -1,4 +1,4 @@
-use Rattle.std.proofs.Common.{◌≡◌, ◌∙◌, ◌*◌, ◌≤◌, length, max, sym, ap, arith}
+use Rattle.std.proofs.Common.{◌≡◌, ◌∙◌, ◌*◌, ◌≤◌, length, max, sym, ap, subst, arith}
 use Rattle.qc_base.specs.declared.fact.Kind.TheVariants.{Normal}
 use Rattle.qc_frame.proofs.Staged.{stands_reserved}
 use Rattle.qc_frame.specs.Log.{LogView}
@@ -8,7 +8,9 @@ use Rattle.qc_txn.specs.Parts.{parts_of}
 use Rattle.crm_clerk.specs.Clerk.{ClerkView, new_clerk}
 use Rattle.crm_clerk.specs.Staging.{HasRoomFor}
 use Rattle.qc_underway.specs.Standing.{calls_left}
+use Rattle.qc_underway.specs.Compensators.{IsOrderly}
 use Rattle.qc_underway.proofs.FewLines.{room-by-effects}
+use Rattle.qc_underway.proofs.Orderly.{orderly-new}
 use Rattle.qc_underway_tests.proofs.bench.Bench.open.Goals as goal
 
 pub returns : goal.returns
@@ -37,4 +39,5 @@ returns g c =
       phases = sym c.has_phases.ensures ∙ c.if-not-has_phases.false;
       stands = stands_reserved g.S.Site.told (g.S.Site.shown site) (g.S.Site.may_leave site) old.log new.log (max old.log.spare (396 * n)) log_is c.in-Ok.ensures.stands;
       room = room-by-effects catalogue attempt clerk new n effects room lines;
+      orderly = subst (λ (v : ClerkView). IsOrderly v) (sym clerk_is) (orderly-new 1 7 (2 * n));
     }

@@ -1,0 +1,16 @@
+pub mod Finished
+pub mod Kept
+pub mod LinesAlone
+pub mod Logs
+pub mod OpeningErrors
+pub mod OpeningFacts
+pub mod OpeningRead
+pub mod OpeningRuns
+pub mod OpeningSteps
+pub mod OpeningTaken
+pub mod PutAgain
+pub mod Recovering
+pub mod Refusing
+pub mod Settled
+pub mod SiteRead
+pub mod Stopped
